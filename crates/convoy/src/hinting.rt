@@ -4,6 +4,7 @@
 
 use super::ending::End;
 use super::kept::KeptWriter;
+use super::sweep_hints::hint_for_sweep;
 use convoy_arguments::{Input, MOST_SECONDS, REJECTED, Verdict, hint_for_words};
 use convoy_commands::{
     Bounds, Done, Fault, Known, LONGEST_JOB, ListFault, MOST_SIMULATIONS, MOST_STEPS, MOST_TICKETS,
@@ -90,7 +91,8 @@ fn text_of(task: &Task) -> &'static str {
         | Task::Latency { .. }
         | Task::Survey { .. }
         | Task::WhatIf { .. }
-        | Task::Budget { .. } => "a scenario",
+        | Task::Budget { .. }
+        | Task::Sweep { .. } => "a scenario",
         Task::Check { .. } | Task::Explain { .. } | Task::Draw { .. } => "a certificate",
         Task::Tell(_) => "a scenario or a certificate",
         Task::BatchTable { .. } => "scenarios",
@@ -212,6 +214,7 @@ fn hint_for_fault<R, W>(alloc: Global, run: &Finished<'_, R, W>, fault: &Fault) 
             None => Ok(None),
         },
         Fault::TooManyJobs => Ok(Some(hint_for_jobs(alloc, MOST_JOBS)?)),
+        Fault::Sweep(cause) => Ok(Some(hint_for_sweep(alloc, *cause)?)),
         Fault::Scenario(_)
         | Fault::Schedule(_)
         | Fault::Order(_)
@@ -248,6 +251,7 @@ fn asked_of_task(task: &Task) -> Option<&Asked> {
         | Task::Survey { asked, .. }
         | Task::WhatIf { asked, .. }
         | Task::Budget { asked, .. }
+        | Task::Sweep { asked, .. }
         | Task::BatchTable { asked, .. } => Some(asked),
         Task::Tell(_) | Task::Check { .. } | Task::Explain { .. } | Task::Draw { .. } => None,
     }
@@ -370,7 +374,8 @@ fn options_of(verdict: &Verdict) -> Option<&Options> {
         | Task::Latency { options, .. }
         | Task::Survey { options, .. }
         | Task::WhatIf { options, .. }
-        | Task::Budget { options, .. } => Some(options),
+        | Task::Budget { options, .. }
+        | Task::Sweep { options, .. } => Some(options),
         _ => None,
     }
 }

@@ -2,7 +2,7 @@
 //! said by the libraries that it calls.
 #![tactic(auto)]
 
-ghost use Rattle.std.specs.Prelude.{◌≡◌};
+ghost use Rattle.std.specs.Prelude.{◌≡◌, ◌<◌, length};
 ghost use Rattle.convoy_arguments.specs.Verdicts.{IsVerdict};
 ghost use Rattle.convoy_arguments.specs.declared.limits.TheConstants.{MOST_READS};
 ghost use Rattle.convoy_commands.specs.Searches.{LatencySays};
@@ -16,6 +16,7 @@ mod hinting;
 mod kept;
 mod obeying;
 mod progress;
+mod sweep_hints;
 
 use convoy_arguments::{Input, Inputs, MOST_READS, Verdict, judge, judge_bytes};
 use convoy_commands::{Done, Fault, Options, Watch, fault_line};
@@ -27,7 +28,7 @@ use ending::{End, FAULT, status_of};
 use hinting::{Finished, greeting, reads_standard, tell_ended, write_line};
 use kept::KeptWriter;
 use obeying::open_and_obey;
-use progress::{Progress, screen_for};
+use progress::{Progress, Together, screen_for, several_for};
 use std::alloc::Global;
 use std::io::{ErrorKind, IsTerminal};
 use std::process::ExitCode;
@@ -49,8 +50,14 @@ fn main(rt: HostRuntime) -> ExitCode {
         writer: KeptWriter::new(rt.stdout()),
     };
     let screen = screen_for(&verdict, rt.stderr().is_terminal());
-    let progress = Progress::new(&rt, alloc, rt.stderr(), screen);
-    let obeyed = open_and_obey(&rt, alloc, rt.stdin(), &verdict, &mut sink, &progress);
+    let together = Together::new();
+    let alone = [Progress::new(&rt, alloc, rt.stderr(), screen, None)];
+    let several = several_for(&rt, alloc, rt.stderr(), screen, &together, verdict.jobs());
+    let watches = watches_of(&alone, &several);
+    let obeyed = open_and_obey(&rt, alloc, rt.stdin(), &verdict, &mut sink, watches);
+    if let Some(first) = several.first() {
+        first.finish();
+    }
     let status = match &obeyed.result {
         Ok(end) => status_of(&verdict, end.done),
         Err(fault) => {
@@ -65,10 +72,18 @@ fn main(rt: HostRuntime) -> ExitCode {
         reader: &obeyed.source.reader,
         scenario_reader: &obeyed.other.reader,
         writer: &sink.writer,
-        is_stopped: progress.is_stopped(),
+        is_stopped: watches.iter().any(|watch| watch.is_stopped()),
     };
     tell_ended(&mut rt.stderr(), alloc, &finished);
     ExitCode::from(status)
+}
+
+/// Who watches: several, where there are, or else the one.
+fn watches_of<'a, W>(alone: &'a [W], several: &'a [W]) -> &'a [W]
+    requires { 0 < length alone.now }
+    ensures { 0 < length result.now }
+{
+    if several.is_empty() { alone } else { several }
 }
 
 /// What is to be done, by the words of the command line.
@@ -98,17 +113,24 @@ fn obey<R: Threads + Wait + Sync, S: Source, K: Sink, W: Watch + Sync>(
     source: &mut S,
     other: &mut S,
     sink: &mut K,
-    watch: &W,
+    watches: &[W],
 ) -> Result<End, Fault>
-    requires { IsVerdict verdict.now }
+    requires watched { 0 < length watches.now }
+    requires verdict { IsVerdict verdict.now }
     ensures { Obeys S.reads K.writes verdict.now source.old source.new other.old other.new sink.old sink.new (done_of_run result) }
 {
     match verdict {
         Verdict::Ask { task, inputs, .. } => {
-            perform(rt, alloc, task, inputs, source, other, sink, watch)
+            perform(rt, alloc, task, inputs, source, other, sink, watches)
         }
         Verdict::Batch { asked, options, .. } => Ok(End::of(answer_batch(
-            rt, alloc, asked, options, source, sink, watch,
+            rt,
+            alloc,
+            asked,
+            options,
+            source,
+            sink,
+            &watches[0],
         )?)),
         Verdict::Text { text, .. } => match write_all(sink, text.as_bytes()) {
             Ok(()) => Ok(End::of(Done::Fine)),
@@ -129,13 +151,14 @@ fn perform<R: Threads + Wait + Sync, S: Source, K: Sink, W: Watch + Sync>(
     source: &mut S,
     other: &mut S,
     sink: &mut K,
-    watch: &W,
+    watches: &[W],
 ) -> Result<End, Fault>
+    requires { 0 < length watches.now }
     ensures { Performs S.reads K.writes task.now inputs.now.wanted
         source.old source.new other.old other.new sink.old sink.new (done_of_run result) }
 {
     let wanted = read_wanted(alloc, &inputs.wanted, other)?;
-    let ended = run_for(rt, alloc, task, &wanted, source, sink, watch)?;
+    let ended = run_for(rt, alloc, task, &wanted, source, sink, watches)?;
     Ok(End {
         done: ended.done,
         known: ended.known,
@@ -165,8 +188,9 @@ fn run_for<R: Threads + Wait + Sync, S: Source, K: Sink, W: Watch + Sync>(
     wanted: &Option<Scenario>,
     source: &mut S,
     sink: &mut K,
-    watch: &W,
+    watches: &[W],
 ) -> Result<Ended, Fault>
+    requires { 0 < length watches.now }
     ensures { IsRun (longest_for task.now) (task_says task.now wanted.now) MOST_READS
         S.reads K.writes source.old source.new sink.old sink.new (done_of result) }
 {
@@ -179,9 +203,9 @@ fn run_for<R: Threads + Wait + Sync, S: Source, K: Sink, W: Watch + Sync>(
             source,
             sink,
             MOST_READS,
-            watch,
+            watches,
         ),
-        None => run_task(rt, alloc, task, None, source, sink, MOST_READS, watch),
+        None => run_task(rt, alloc, task, None, source, sink, MOST_READS, watches),
     }
 }
 

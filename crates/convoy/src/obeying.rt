@@ -1,5 +1,6 @@
 //! A verdict is obeyed with the inputs that it names.
 
+ghost use Rattle.std.specs.Prelude.{◌<◌, length};
 ghost use Rattle.convoy_arguments.specs.Verdicts.{IsVerdict};
 ghost use Rattle.convoy.specs.Obeying.{HasObeyed};
 
@@ -30,14 +31,15 @@ pub fn open_and_obey<R: Opener + Threads + Wait + Sync, K: Sink, W: Watch + Sync
     stdin: Stdin,
     verdict: &Verdict,
     sink: &mut K,
-    watch: &W,
+    watches: &[W],
 ) -> Obeyed<R::File>
-    requires { IsVerdict verdict.now }
+    requires watched { 0 < length watches.now }
+    requires verdict { IsVerdict verdict.now }
     ensures { HasObeyed R.opens R.File.remaining K.writes verdict.now sink.old sink.new result }
 {
     let mut source = source_of(rt, alloc, stdin, verdict.file());
     let mut other = source_of(rt, alloc, stdin, verdict.scenario_file());
-    let result = obey(rt, alloc, verdict, &mut source, &mut other, sink, watch);
+    let result = obey(rt, alloc, verdict, &mut source, &mut other, sink, watches);
     Obeyed {
         source,
         other,

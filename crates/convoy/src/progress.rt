@@ -48,13 +48,62 @@ pub fn screen_for(verdict: &Verdict, is_terminal: bool) -> Screen {
     }
 }
 
-/// Tells on standard error how far a search has come, once a second, and tells the search when its time is over.
+/// How far a table has come of which several rows are made at a time: what the progresses of their searches share.
+#[derive(Drop)]
+pub struct Together {
+    /// When the first search began, in milliseconds of the clock, or 0.
+    begun: AtomicU64,
+    /// When the next line is due.
+    due: AtomicU64,
+    /// How many searches have ended.
+    ended: AtomicU64,
+    /// Whether a line was told.
+    told: AtomicBool,
+}
+
+impl Together {
+    /// No search has begun.
+    pub fn new() -> Together {
+        Together {
+            begun: AtomicU64::new(0),
+            due: AtomicU64::new(0),
+            ended: AtomicU64::new(0),
+            told: AtomicBool::new(false),
+        }
+    }
+
+    /// A search begins.
+    fn begin(&self, now: u64) {
+        let first = self
+            .begun
+            .compare_exchange(0, now, Ordering::SeqCst, Ordering::SeqCst);
+        if first.is_ok() {
+            self.due.store(now.saturating_add(PAUSE), Ordering::SeqCst);
+        }
+    }
+
+    /// Whether a line is due, which is then told by the one that asked.
+    fn is_due(&self, now: u64) -> bool {
+        let due = self.due.load(Ordering::SeqCst);
+        let next = now.saturating_add(PAUSE);
+        now >= due
+            && self
+                .due
+                .compare_exchange(due, next, Ordering::SeqCst, Ordering::SeqCst)
+                .is_ok()
+    }
+}
+
+/// Tells on standard error how far a search has come, once a second, and tells the search when its time is over. Where
+/// several rows of a table are made at a time, how many searches have ended is told in its place.
 #[derive(Drop)]
 pub struct Progress<'a, R> {
     rt: &'a R,
     alloc: Global,
     stderr: Stderr,
     screen: Screen,
+    /// What it shares with others, where several rows are made at a time.
+    together: Option<&'a Together>,
     /// Whether the search goes by stamp bounds.
     by_stamps: AtomicBool,
     /// Whether it goes by leads.
@@ -84,13 +133,20 @@ pub struct Progress<'a, R> {
 }
 
 impl<'a, R: Clock> Progress<'a, R> {
-    /// Progress of a search on that screen.
-    pub fn new(rt: &'a R, alloc: Global, stderr: Stderr, screen: Screen) -> Progress<'a, R> {
+    /// Progress of a search on that screen, together with others, if there are any.
+    pub fn new(
+        rt: &'a R,
+        alloc: Global,
+        stderr: Stderr,
+        screen: Screen,
+        together: Option<&'a Together>,
+    ) -> Progress<'a, R> {
         Progress {
             rt,
             alloc,
             stderr,
             screen,
+            together,
             by_stamps: AtomicBool::new(false),
             by_leads: AtomicBool::new(false),
             begun: AtomicU64::new(0),
@@ -159,6 +215,10 @@ impl<'a, R: Clock> Progress<'a, R> {
     /// Writes a line where one is due.
     fn tell(&self, spent: u64) {
         let now = self.now();
+        if let Some(together) = self.together {
+            self.tell_together(together, now);
+            return;
+        }
         if now < self.due.load(Ordering::Relaxed) {
             return;
         }
@@ -166,6 +226,48 @@ impl<'a, R: Clock> Progress<'a, R> {
         if let Ok(line) = self.line(spent, now) {
             self.told.store(true, Ordering::Relaxed);
             let _ = (&self.stderr).write_all(line.as_bytes());
+        }
+    }
+
+    /// Writes a line on all rows where one is due.
+    fn tell_together(&self, together: &Together, now: u64) {
+        if !together.is_due(now) {
+            return;
+        }
+        if let Ok(line) = self.line_together(together, now) {
+            together.told.store(true, Ordering::SeqCst);
+            let _ = (&self.stderr).write_all(line.as_bytes());
+        }
+    }
+
+    /// What is told of all rows at that time.
+    fn line_together(&self, together: &Together, now: u64) -> Result<String, AllocError> {
+        let ended = together.ended.load(Ordering::SeqCst);
+        let seconds = now.saturating_sub(together.begun.load(Ordering::SeqCst)) / 1_000;
+        let (start, end) = self.around();
+        let searches = if ended == 1 {
+            "search has"
+        } else {
+            "searches have"
+        };
+        format!(in self.alloc; "{start}{ended} {searches} ended in {seconds} s{end}")
+    }
+
+    /// What stands before a line and after it.
+    fn around(&self) -> (&'static str, &'static str) {
+        match self.screen {
+            Screen::Terminal => ("\r", "\x1b[K"),
+            Screen::Stream | Screen::Off => ("", "\n"),
+        }
+    }
+
+    /// Ends the line that was told of all rows, if one was, where the next one would stand in its place.
+    pub fn finish(&self) {
+        let Some(together) = self.together else {
+            return;
+        };
+        if self.screen == Screen::Terminal && together.told.load(Ordering::SeqCst) {
+            let _ = (&self.stderr).write_all(b"\n");
         }
     }
 
@@ -179,10 +281,7 @@ impl<'a, R: Clock> Progress<'a, R> {
             .max(1);
         let rate = spent.saturating_mul(1_000) / passed;
         let spent = spent.min(limit);
-        let (start, end) = match self.screen {
-            Screen::Terminal => ("\r", "\x1b[K"),
-            Screen::Stream | Screen::Off => ("", "\n"),
-        };
+        let (start, end) = self.around();
         let tickets = if limit == 1 { "ticket" } else { "tickets" };
         let way = self.way();
         if most == u32::MAX {
@@ -219,6 +318,28 @@ impl<'a, R: Clock> Progress<'a, R> {
         let tick = Duration::from_nanoseconds(self.tick.load(Ordering::Relaxed))?;
         Some(Measure { tick, unit })
     }
+}
+
+/// The progresses of so many searches at a time, where there are several: as many of them as there is memory for.
+pub fn several_for<'a, R: Clock>(
+    rt: &'a R,
+    alloc: Global,
+    stderr: Stderr,
+    screen: Screen,
+    together: &'a Together,
+    jobs: u32,
+) -> Vec<Progress<'a, R>> {
+    let mut several = Vec::new(alloc);
+    if jobs < 2 {
+        return several;
+    }
+    for _ in 0..jobs {
+        let progress = Progress::new(rt, alloc, stderr, screen, Some(together));
+        if several.push(progress).is_err() {
+            break;
+        }
+    }
+    several
 }
 
 /// The unit that has so many nanoseconds, if one has.
@@ -288,12 +409,18 @@ impl<'a, R: Clock> Watch for Progress<'a, R> {
         self.tick.store(tick, Ordering::Relaxed);
         self.unit.store(unit, Ordering::Relaxed);
         self.told.store(false, Ordering::Relaxed);
+        if let Some(together) = self.together {
+            together.begin(self.now());
+        }
         self.start(bounds, limit, least, most.unwrap_or(u32::MAX));
     }
 
     fn ends(&self, is_open: bool) {
         if is_open && self.over.load(Ordering::Relaxed) {
             self.stopped.store(true, Ordering::Relaxed);
+        }
+        if let Some(together) = self.together {
+            together.ended.fetch_add(1, Ordering::SeqCst);
         }
         if self.screen == Screen::Terminal && self.told.load(Ordering::Relaxed) {
             let _ = (&self.stderr).write_all(b"\n");

@@ -3,6 +3,7 @@
 use super::escaping::Escaped;
 use clap::ArgMatches;
 use convoy_scenario::{Duration, Name};
+use convoy_sweep::{Setting, Sweep, UnreadSetting};
 use convoy_toml::{Asked, TargetKey, WrittenTime};
 use std::alloc::{AllocError, Global};
 
@@ -109,6 +110,39 @@ fn count_in(digits: &str) -> Option<WrittenTime> {
     match digits.parse::<i64>() {
         Ok(ticks) if ticks >= 1 => Some(WrittenTime::Count(ticks)),
         _ => None,
+    }
+}
+
+/// How `--set` stands in a text for a person, and what can be written there.
+const SET: (&str, &str) = (
+    "--set <KEY=FROM..TO/STEP>",
+    "write a key and its values, as 't.at=0..100/10' or 'client-a.most=\"5 ms..20 ms/1 ms\"', once or twice",
+);
+
+/// The keys of a sweep with their values: of one `--set`, or of two.
+pub(crate) fn sweep_of(alloc: Global, given: &ArgMatches<'_>) -> Result<Sweep, Unasked> {
+    match given.get_strs("set") {
+        Some([first]) => Ok(Sweep {
+            first: setting_in(alloc, first)?,
+            second: None,
+        }),
+        Some([first, second]) => Ok(Sweep {
+            first: setting_in(alloc, first)?,
+            second: Some(setting_in(alloc, second)?),
+        }),
+        Some([_, _, third, ..]) => Err(rejected(alloc, SET, third)),
+        _ => Err(rejected(alloc, SET, "")),
+    }
+}
+
+/// The key with its values that a word tells.
+fn setting_in(alloc: Global, word: &str) -> Result<Setting, Unasked> {
+    match Setting::read(alloc, word) {
+        Ok(setting) => Ok(setting),
+        Err(UnreadSetting::Memory) => Err(Unasked::Memory),
+        Err(UnreadSetting::Form | UnreadSetting::Key | UnreadSetting::Time) => {
+            Err(rejected(alloc, SET, word))
+        }
     }
 }
 

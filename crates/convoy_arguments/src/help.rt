@@ -353,6 +353,32 @@ with the numbers the deadline is kept all the same.
 The exit status is 5 where the deadline is missed already, else 1 where memory ran out
 for a row, else 3 where one is open.";
 
+pub(crate) const ABOUT_SWEEP: &str = "Tells the latency for each value of a time or a range";
+
+pub(crate) const LONG_ABOUT_SWEEP: &str = "\
+Reads a scenario, and writes a table with a row for each value that the option `--set`
+gives a key of it: the greatest latency of the target in the scenario with that value:
+  convoy sweep --set t.at=0..10/5 scenario.toml
+  t.at  answer    least  most  rival  tied  nodes
+     0  greatest     12    12  y      x         1
+     5  greatest      9     9  y      -         1
+    10  greatest      7     7  -      -         1
+A key is `delay`, MESSAGE.at, MESSAGE.until, FROM-TO.least or FROM-TO.most, where FROM
+is a group or `client`, and a link from there is in the scenario. The values go from
+FROM in steps up to at most TO, each in ticks or as '10 ms', as the scenario's own
+times. With a second `--set` there is a row for each pair of values, at most 10000.
+Of what lies between two values nothing is told.
+
+The exit status is 5 where a row is beyond the target's deadline, else 1 where memory
+ran out for one, else 3 where one is open.";
+
+pub(crate) const ABOUT_SET: &str = "\
+Which key of the scenario has which values; once, or twice for all pairs of values";
+
+pub(crate) const ABOUT_ENVELOPE: &str = "\
+Lets each row speak of all times of issue from one value to the next, as a window does:
+for keys MESSAGE.at, but not of the target";
+
 pub(crate) const ABOUT_ALL_DEADLINES: &str = "\
 Tells the budgets of each message that has a deadline, at each group that it goes to;
 the text need not have a target";
@@ -420,6 +446,11 @@ pub(crate) const ABOUT_WORKERS: &str = "\
 How many workers share the search, each in a thread of its own: from 1 to 16. The
 latency does not depend on it; which schedule has it, and which tree shows it,
 may, and with several workers they may be others each time";
+
+pub(crate) const ABOUT_JOBS: &str = "\
+How many rows of the table are made at a time, each in a thread of its own, which
+`--workers` may share: from 1 to 16, and 1 without this option. The table does not
+depend on it, but for rows that `--seconds` stops";
 
 pub(crate) const ABOUT_PROGRESS: &str = "\
 Tells on standard error, once a second, how far the search has come. Where that

@@ -1,7 +1,7 @@
 ghost use Rattle.std.specs.Prelude.{◌≡◌, ◌⊎◌, IfOk};
 ghost use Rattle.convoy_arguments.specs.Verdicts.{EndsAtOnce, IsVerdict, WantsOnlyIfChecks};
 
-use super::asking::{Unasked, asked_of};
+use super::asking::{Unasked, asked_of, sweep_of};
 use super::escaping::{are_shown, with_escapes};
 use super::input::{Input, Inputs};
 use super::limits::{HELP, REJECTED};
@@ -185,7 +185,17 @@ fn verdict_for(
             manner,
         });
     }
-    let task = task_for(alloc, name, given, asked)?;
+    let task = if name == "sweep" {
+        match sweep_for(alloc, given, asked) {
+            Ok(task) => task,
+            Err(Unasked::Rejected(text)) => {
+                return Ok(rejected(alloc, text.as_str(), manner.is_quiet));
+            }
+            Err(Unasked::Memory) => return Ok(Verdict::Memory),
+        }
+    } else {
+        task_for(alloc, name, given, asked)?
+    };
     let wanted = wanted_for(alloc, &task, given)?;
     if let (Some(Input::Standard), Input::Standard) = (&wanted, &text) {
         return Ok(rejected(alloc, BOTH_STANDARD, manner.is_quiet));
@@ -306,6 +316,17 @@ fn budget_for(given: &ArgMatches<'_>, asked: Asked) -> Task {
         asked,
         options: options_of(given),
     }
+}
+
+/// What `sweep` asks for.
+fn sweep_for(alloc: Global, given: &ArgMatches<'_>, asked: Asked) -> Result<Task, Unasked> {
+    Ok(Task::Sweep {
+        format: format_of(given),
+        sweep: sweep_of(alloc, given)?,
+        envelope: given.get_flag("envelope"),
+        asked,
+        options: options_of(given),
+    })
 }
 
 /// The table of searches that `survey` or `batch` asks for.

@@ -1,3 +1,4 @@
+use super::options::jobs_of;
 use clap::ArgMatches;
 
 /// How the words of a command line ask for a task, beyond which task it is: nothing that is answered rests on it.
@@ -11,6 +12,8 @@ pub struct Manner {
     pub names_command: bool,
     /// Whether they name the bounds by which a search goes.
     pub names_bounds: bool,
+    /// How many rows of a table are made at a time.
+    pub jobs: u32,
 }
 
 impl Manner {
@@ -21,6 +24,7 @@ impl Manner {
             tells_progress: false,
             names_command: false,
             names_bounds: false,
+            jobs: 1,
         }
     }
 
@@ -31,6 +35,7 @@ impl Manner {
             tells_progress: given.get_flag("progress"),
             names_command,
             names_bounds: given.get_str("bounds").is_some(),
+            jobs: jobs_of(given),
         }
     }
 }

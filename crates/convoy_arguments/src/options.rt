@@ -37,6 +37,11 @@ pub(crate) fn unit_of(given: &ArgMatches<'_>) -> Option<TimeUnit> {
     TimeUnit::named(word.as_bytes())
 }
 
+/// How many rows of a table are made at a time: as many as are given, or else one. `clap` rejects a number out of range.
+pub(crate) fn jobs_of(given: &ArgMatches<'_>) -> u32 {
+    given.get_one("jobs").unwrap_or(1)
+}
+
 /// The options of a search: those that are given, or else the usual ones. `clap` rejects a word that
 /// is none of these, and a number out of range.
 pub(crate) fn options_of(given: &ArgMatches<'_>) -> Options

@@ -3,7 +3,7 @@
 use std::alloc::{AllocError, Global};
 
 /// Such options, and what to write in their place.
-const OTHERS: [(&str, &str); 25] = [
+const OTHERS: [(&str, &str); 24] = [
     ("--message", TARGET),
     ("--within", AT_MOST),
     ("--deadline", AT_MOST),
@@ -19,7 +19,6 @@ const OTHERS: [(&str, &str); 25] = [
     ("-o", OUTPUT),
     ("--output-format", "'--format' names the format of a table"),
     ("--threads", WORKERS),
-    ("--jobs", WORKERS),
     ("-j", WORKERS),
     ("--timeout", SECONDS),
     ("--time-limit", SECONDS),
@@ -41,7 +40,8 @@ const UNIT: &str = "'--unit' says in which unit times are told, as '--unit ms'";
 
 const OUTPUT: &str = "the answer goes to standard output, as by '> FILE'";
 
-const WORKERS: &str = "'--workers' says how many threads share a search";
+const WORKERS: &str =
+    "'--workers' says how many threads share a search, and '--jobs' how many rows of a table are made at a time";
 
 const SECONDS: &str = "'--seconds' says after how long a search stops";
 

@@ -75,6 +75,10 @@ fn valued_argument<'a>(alloc: Global, setting: Setting) -> Arg<'a> {
     match setting.value {
         Value::Absent => argument.action(ArgAction::SetTrue),
         Value::Given(name, parser) => argument.value_name(name).value_parser(parser),
+        Value::Several(name, parser) => argument
+            .value_name(name)
+            .value_parser(parser)
+            .action(ArgAction::Append),
         Value::Usual(name, parser, usual) => argument
             .value_name(name)
             .value_parser(parser)

@@ -3,14 +3,15 @@
 use super::help::{
     ABOUT_ALL, ABOUT_ALL_CHANGES, ABOUT_ALL_DEADLINES, ABOUT_ANALYSE, ABOUT_AT_MOST, ABOUT_BATCH,
     ABOUT_BATCH_AT_MOST, ABOUT_BATCH_FORMAT, ABOUT_BESIDE, ABOUT_BOUNDS, ABOUT_BUDGET,
-    ABOUT_CEILING, ABOUT_CHECK, ABOUT_DRAW, ABOUT_EXPLAIN, ABOUT_FIRST, ABOUT_FORMAT, ABOUT_GROUP,
-    ABOUT_LATENCY, ABOUT_LIMIT, ABOUT_OF_CEILING, ABOUT_PACKETS, ABOUT_PROGRESS, ABOUT_SCENARIO,
-    ABOUT_SECONDS, ABOUT_SEEK, ABOUT_SEEK_TRAFFIC, ABOUT_SIMULATE, ABOUT_STATUS, ABOUT_STEPS,
-    ABOUT_SURVEY, ABOUT_TARGET, ABOUT_TELL, ABOUT_TIMELINE, ABOUT_UNIT, ABOUT_WANTED,
-    ABOUT_WITHOUT, ABOUT_WORKERS, LONG_ABOUT_ANALYSE, LONG_ABOUT_BATCH, LONG_ABOUT_BUDGET,
-    LONG_ABOUT_CEILING, LONG_ABOUT_CHECK, LONG_ABOUT_DRAW, LONG_ABOUT_EXPLAIN, LONG_ABOUT_FIRST,
-    LONG_ABOUT_LATENCY, LONG_ABOUT_PACKETS, LONG_ABOUT_SCENARIO, LONG_ABOUT_SIMULATE,
-    LONG_ABOUT_SURVEY, LONG_ABOUT_TIMELINE,
+    ABOUT_CEILING, ABOUT_CHECK, ABOUT_DRAW, ABOUT_ENVELOPE, ABOUT_EXPLAIN, ABOUT_FIRST,
+    ABOUT_FORMAT, ABOUT_GROUP, ABOUT_JOBS, ABOUT_LATENCY, ABOUT_LIMIT, ABOUT_OF_CEILING,
+    ABOUT_PACKETS, ABOUT_PROGRESS, ABOUT_SCENARIO, ABOUT_SECONDS, ABOUT_SEEK, ABOUT_SEEK_TRAFFIC,
+    ABOUT_SET, ABOUT_SIMULATE, ABOUT_STATUS, ABOUT_STEPS, ABOUT_SURVEY, ABOUT_SWEEP, ABOUT_TARGET,
+    ABOUT_TELL, ABOUT_TIMELINE, ABOUT_UNIT, ABOUT_WANTED, ABOUT_WITHOUT, ABOUT_WORKERS,
+    LONG_ABOUT_ANALYSE, LONG_ABOUT_BATCH, LONG_ABOUT_BUDGET, LONG_ABOUT_CEILING, LONG_ABOUT_CHECK,
+    LONG_ABOUT_DRAW, LONG_ABOUT_EXPLAIN, LONG_ABOUT_FIRST, LONG_ABOUT_LATENCY, LONG_ABOUT_PACKETS,
+    LONG_ABOUT_SCENARIO, LONG_ABOUT_SIMULATE, LONG_ABOUT_SURVEY, LONG_ABOUT_SWEEP,
+    LONG_ABOUT_TIMELINE,
 };
 use super::limits::MOST_SECONDS;
 use clap::builder::ValueParser;
@@ -69,7 +70,9 @@ pub(crate) enum Value {
     Absent,
     /// One that help calls by this word, and that has to be so.
     Given(&'static str, ValueParser<'static>),
-    /// The same, with the one that it has where the option is not given.
+    /// The same, of an option that may be given more than once.
+    Several(&'static str, ValueParser<'static>),
+    /// One as `Given`, with the one that it has where the option is not given.
     Usual(&'static str, ValueParser<'static>, &'static str),
 }
 
@@ -100,6 +103,9 @@ const NAMED_TARGET: Value = Value::Given("MESSAGE@GROUP", ValueParser::String);
 
 /// How many schedules may be simulated, and how many are where that is not said.
 const SIMULATIONS: Value = Value::Usual("N", ValueParser::Unsigned(0, MOST_SIMULATIONS), "20000");
+
+/// How many rows of a table may be made at a time: as many as workers may share a search.
+const ROWS_AT_A_TIME: Value = Value::Given("N", ValueParser::Signed(1, MOST_WORKERS as i64));
 
 // The usual numbers are told as texts.
 const _: () = prove!(DEFAULT_SIMULATIONS == 20_000);
@@ -163,6 +169,22 @@ const WORKERS: Setting = Setting {
     about: ABOUT_WORKERS,
     value: Value::Usual("N", ValueParser::Signed(1, MOST_WORKERS as i64), "1"),
     company: Company::Any,
+};
+
+/// How many rows of a table are made at a time.
+const JOBS: Setting = Setting {
+    name: "jobs",
+    about: ABOUT_JOBS,
+    value: ROWS_AT_A_TIME,
+    company: Company::Any,
+};
+
+/// The same of a survey: of changes it has none.
+const SURVEY_JOBS: Setting = Setting {
+    name: "jobs",
+    about: ABOUT_JOBS,
+    value: ROWS_AT_A_TIME,
+    company: Company::Without("without"),
 };
 
 /// Whether a search tells how far it has come.
@@ -317,6 +339,22 @@ const CHANGES_TARGET: Setting = Setting {
     company: Company::With("without"),
 };
 
+/// Which values a sweep gives a key, once for each key.
+const SET: Setting = Setting {
+    name: "set",
+    about: ABOUT_SET,
+    value: Value::Several("KEY=FROM..TO/STEP", ValueParser::String),
+    company: Company::Any,
+};
+
+/// Whether a row of a sweep speaks of all times of issue up to the next value.
+const ENVELOPE: Setting = Setting {
+    name: "envelope",
+    about: ABOUT_ENVELOPE,
+    value: Value::Absent,
+    company: Company::Any,
+};
+
 /// In which unit times are told.
 const UNIT: Setting = Setting {
     name: "unit",
@@ -342,7 +380,7 @@ const TELL: Setting = Setting {
 };
 
 /// The commands.
-pub(crate) const COMMANDS: [Listed; 14] = [
+pub(crate) const COMMANDS: [Listed; 15] = [
     Listed {
         name: "analyse",
         about: ABOUT_ANALYSE,
@@ -395,6 +433,7 @@ pub(crate) const COMMANDS: [Listed; 14] = [
             SEEK,
             BOUNDS,
             WORKERS,
+            SURVEY_JOBS,
             PROGRESS,
             FORMAT,
             UNIT,
@@ -422,6 +461,15 @@ pub(crate) const COMMANDS: [Listed; 14] = [
             PROGRESS,
             FORMAT,
             UNIT,
+        ],
+    },
+    Listed {
+        name: "sweep",
+        about: ABOUT_SWEEP,
+        long_about: LONG_ABOUT_SWEEP,
+        settings: &[
+            SET, ENVELOPE, TARGET, AT_MOST, LIMIT, SECONDS, SEEK, BOUNDS, WORKERS, JOBS, PROGRESS,
+            FORMAT, UNIT,
         ],
     },
     Listed {

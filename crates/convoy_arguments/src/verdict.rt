@@ -46,6 +46,14 @@ impl Verdict {
         }
     }
 
+    /// How many rows of a table are made at a time; of anything else there is one.
+    pub fn jobs(&self) -> u32 {
+        match self {
+            Verdict::Ask { manner, .. } => manner.jobs,
+            Verdict::Batch { .. } | Verdict::Text { .. } | Verdict::Memory => 1,
+        }
+    }
+
     /// The name of the file that is read, where one is.
     pub fn file(&self) -> Option<&str>
         ensures { option_map (λ text. text.now) result ≡ file_of self.now }

@@ -6,10 +6,10 @@ use std::convert::AsStr;
 use std::fmt;
 
 /// The commands that write tables: `ceiling` where it is asked for several ceilings.
-const WITH_TABLES: [&str; 4] = ["survey", "batch", "ceiling", "budget"];
+const WITH_TABLES: [&str; 5] = ["survey", "batch", "ceiling", "budget", "sweep"];
 
 /// Options of a command or two, and these commands as they are told.
-const OF_SOME: [(&str, &str); 11] = [
+const OF_SOME: [(&str, &str); 12] = [
     ("all", "'ceiling', 'budget' and 'survey --without'"),
     ("group", "'ceiling'"),
     ("ceiling", "'latency', 'explain', 'survey' and 'budget'"),
@@ -29,6 +29,7 @@ const OF_SOME: [(&str, &str); 11] = [
         "unit",
         "'latency', 'survey', 'ceiling', 'budget', 'batch', 'explain', 'draw' and 'check'",
     ),
+    ("jobs", "'survey', 'budget' and 'batch --format'"),
     ("format", "'survey', 'batch', 'ceiling' and 'budget'"),
 ];
 

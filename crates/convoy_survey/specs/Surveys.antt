@@ -1,6 +1,7 @@
 -- What a survey of a scenario writes.
 use Rattle.std.specs.Prelude.{◌≡◌, ℕ, ◌<◌, Bool, List, length, map, Option, Result, Ok, Err}
 use Rattle.std.specs.List.{All, list_any}
+use denote.Ref.{Bor}
 use Rattle.std.specs.declared.alloc.AllocError.{AllocError}
 use Rattle.convoy_scenario.specs.Scenario.{Scenario, GoesTo, message_at}
 use Rattle.convoy_scenario.specs.Targets.{targets_of}
@@ -33,6 +34,20 @@ pub record IsTarget (scenario : Scenario) (message group : ℕ) : Type 0 where
 abbrev pub TakesTargets : Scenario → (ℕ → ℕ → Type 0) → Type 0
 TakesTargets scenario may_call =
     (message group : ℕ) → IsTarget scenario message group → may_call message group
+
+-- the pair of a message and a group may be the target
+abbrev pub IsTargetPair : Scenario → ℕ × ℕ → Type 0
+IsTargetPair scenario target = IsTarget scenario target.0 target.1
+
+-- It may be answered, with some watch.
+pub record MayAnswerBy {W : Type 0} (may_answer : ℕ → ℕ → Bor W → Result Finding AllocError → Type 0) (message group : ℕ) (answer : Result Finding AllocError) : Type 0 where
+  pub watch : Bor W
+  pub answered : may_answer message group watch answer
+
+-- The row is that of the target, and tells what may be answered for it.
+pub record TellsTarget (may_answer : ℕ → ℕ → Result Finding AllocError → Type 0) (target : ℕ × ℕ) (row : Surveyed) : Type 0 where
+  pub of_target : target_of row ≡ target
+  pub told : IsRowBy may_answer row
 
 -- There is a row for each message that does not wait, at each group that it goes to, in their order, and each tells what the search for that target answered, where such answers may be given.
 pub record AreRowsBy (scenario : Scenario) (may_answer : ℕ → ℕ → Result Finding AllocError → Type 0) (rows : List Surveyed) : Type 0 where

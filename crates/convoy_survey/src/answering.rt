@@ -1,4 +1,4 @@
-ghost use Rattle.std.specs.Prelude.{◌≡◌};
+ghost use Rattle.std.specs.Prelude.{◌≡◌, ◌<◌, length};
 ghost use Rattle.std.specs.List.{list_any};
 ghost use Rattle.convoy_commands.specs.Replies.{SaysUnlessMemory, reply_of};
 ghost use Rattle.convoy_survey.specs.Findings.{is_fault};
@@ -40,8 +40,9 @@ pub fn survey_answer<R: Threads + Wait + Sync, W: Watch + Sync>(
     asked: &Asked,
     options: &Options,
     text: &[u8],
-    watch: &W,
+    watches: &[W],
 ) -> Result<Answer, Fault>
+    requires { 0 < length watches.now }
     ensures { SaysUnlessMemory (SurveySays format with_ceilings asked.now options.now) text.now
         (reply_of result) }
 {
@@ -49,7 +50,7 @@ pub fn survey_answer<R: Threads + Wait + Sync, W: Watch + Sync>(
     let scenario = input.scenario;
     // A scenario is well formed.
     let _count = scenario.message_count();
-    let rows = survey(rt, alloc, &scenario, options, watch)?;
+    let rows = survey(rt, alloc, &scenario, options, watches)?;
     let times = Times::of(format, Measure::of(&scenario, options.unit(), input.unit));
     let deadlines = input.deadlines.as_slice();
     let text = survey_text(

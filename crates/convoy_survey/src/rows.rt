@@ -1,13 +1,15 @@
-ghost use Rattle.std.specs.Prelude.{◌≡◌, ◌<◌, ◌++◌, length, map, IfOk, OnOk};
+ghost use Rattle.std.specs.Prelude.{◌≡◌, ◌<◌, [], ◌∷◌, ◌++◌, length, IfOk, OnOk};
 ghost use Rattle.std.specs.List.{All};
-ghost use Rattle.convoy_scenario.specs.Targets.{targets_at};
-ghost use Rattle.convoy_survey.specs.Findings.{IsRowBy, MayAnswer, target_of};
-ghost use Rattle.convoy_survey.specs.Surveys.{AreRowsBy, AreSurveyed, IsTarget, TakesTargets};
+ghost use Rattle.convoy_scenario.specs.Targets.{targets_at, targets_of};
+ghost use Rattle.convoy_survey.specs.Findings.{MayAnswer};
+ghost use Rattle.convoy_survey.specs.Surveys.{AreRowsBy, AreSurveyed, IsTarget, IsTargetPair, MayAnswerBy, TakesTargets, TellsTarget};
+ghost use denote.Ref.{Bor};
 
 use super::finding::{Finding, Surveyed};
 use super::searching::find_target;
 use convoy_branch::Options;
 use convoy_commands::Watch;
+use convoy_rows::make_each;
 use convoy_scenario::Scenario;
 use std::alloc::{AllocError, Global};
 use std::sync::Wait;
@@ -17,82 +19,115 @@ use std::thread::Threads;
 /// order of their numbers, but for messages that may wait: a latency counts from an issue that is known.
 /// Each search goes as [`latency_answer`](convoy_commands::latency_answer) does with these options: by
 /// their limit of tickets, by their bounds or both ways, and with their number of workers. Where memory
-/// runs out for one of them, that is what its row tells, and the others are searched all the same. Each
-/// search is watched. Fails where there is no memory for the rows, and else never.
+/// runs out for one of them, that is what its row tells, and the others are searched all the same. As many
+/// searches are made at a time as there are watches, and each is watched by one of them. Fails where there
+/// is no memory for the rows, and else never.
 pub fn survey<R: Threads + Wait + Sync, W: Watch + Sync>(
     rt: &R,
     alloc: Global,
     scenario: &Scenario,
     options: &Options,
-    watch: &W,
+    watches: &[W],
 ) -> Result<Vec<Surveyed>, AllocError>
+    requires { 0 < length watches.now }
     ensures { IfOk result (λ rows. AreSurveyed options.now scenario.now rows.items) }
 {
-    survey_by(
-        alloc,
-        scenario,
-        |message: usize, group: usize| -> Result<Finding, AllocError>
-            requires { IsTarget scenario.now message group }
-            ensures { MayAnswer options.entry.now scenario.entry.now message group result }
-        { find_target(rt, alloc, scenario, message, group, options, watch) },
-    )
-}
-
-/// The rows of [`survey`], each by a search of the caller's own, which is given the numbers of a message and of a
-/// group that it goes to. A row tells what `find` answers for its target, and that memory ran out just where `find`
-/// answers so. Fails where there is no memory for the rows, and else never.
-pub fn survey_by<F: Fn(usize, usize) -> Result<Finding, AllocError>>(
-    alloc: Global,
-    scenario: &Scenario,
-    find: F,
-) -> Result<Vec<Surveyed>, AllocError>
-    requires { TakesTargets scenario.now (F.pre find) }
-    ensures { IfOk result (λ rows. AreRowsBy scenario.now (F.post find) rows.items) }
-{
-    let mut rows = Vec::new(alloc);
-    for message in 0..scenario.message_count() {
-        survey_message(scenario, message, &find, &mut rows)?;
-    }
+    let find = |message: usize, group: usize, watch: &W| -> Result<Finding, AllocError>
+        requires { IsTarget scenario.now message group }
+        ensures { MayAnswer options.entry.now scenario.entry.now message group result }
+    { find_target(rt, alloc, scenario, message, group, options, watch) };
+    let rows = survey_by(rt, alloc, scenario, watches, &find)?;
     Ok(rows)
 }
 
-/// Appends what is told of a message at each group that it goes to, unless it may wait.
-fn survey_message<F: Fn(usize, usize) -> Result<Finding, AllocError>>(
+/// The rows of [`survey`], each by a search of the caller's own, which is given the numbers of a message and of a
+/// group that it goes to, and a watch. A row tells what `find` answers for its target, and that memory ran out just where
+/// `find` answers so. Fails where there is no memory for the rows, and else never.
+pub fn survey_by<
+    R: Threads + Sync,
+    W: Sync,
+    F: Fn(usize, usize, &W) -> Result<Finding, AllocError> + Sync,
+>(
+    rt: &R,
+    alloc: Global,
     scenario: &Scenario,
-    message: usize,
+    watches: &[W],
     find: &F,
-    rows: &mut Vec<Surveyed>,
-) -> Result<(), AllocError>
-    requires takes { TakesTargets scenario.now (F.pre find.now) }
-    requires known { message < length scenario.now.multicasts }
-    requires told { All (IsRowBy (F.post find.now)) rows.old.items }
-    ensures targets { OnOk result (map target_of rows.new.items
-        ≡ map target_of rows.old.items ++ targets_at scenario.now message) }
-    ensures told { OnOk result (All (IsRowBy (F.post find.now)) rows.new.items) }
+) -> Result<Vec<Surveyed>, AllocError>
+    requires watched { 0 < length watches.now }
+    requires takes { (watch : Bor W) → TakesTargets scenario.now (λ m g. F.pre find.now m g watch) }
+    ensures { IfOk result (λ rows. AreRowsBy scenario.now (MayAnswerBy (F.post find.now)) rows.items) }
 {
-    if 0 < scenario.longest_wait(message) {
-        return Ok(());
-    }
-    for group in scenario.destinations(message) {
-        rows.push(row_by(message, *group, find))?;
-    }
-    Ok(())
+    let targets = targets_of(alloc, scenario)?;
+    let row = |target: &(usize, usize), watch: &W| -> Surveyed
+        requires { (watch : Bor W) → F.pre find.now target.now.0 target.now.1 watch }
+        ensures { TellsTarget (MayAnswerBy (F.post find.entry.now)) target.now result }
+    { row_by(*target, watch, find) };
+    let rows = make_each(rt, alloc, watches, &targets, &row)?;
+    Ok(rows)
 }
 
 /// The row of a message at a group.
-fn row_by<F: Fn(usize, usize) -> Result<Finding, AllocError>>(
-    message: usize,
-    group: usize,
+fn row_by<W, F: Fn(usize, usize, &W) -> Result<Finding, AllocError>>(
+    target: (usize, usize),
+    watch: &W,
     find: &F,
 ) -> Surveyed
-    requires { F.pre find.now message group }
-    ensures target { target_of result ≡ (message, group) }
-    ensures told { IsRowBy (F.post find.now) result }
+    requires { (watch : Bor W) → F.pre find.now target.0 target.1 watch }
+    ensures { TellsTarget (MayAnswerBy (F.post find.now)) target result }
 {
-    let finding = Finding::told(find(message, group));
+    let (message, group) = target;
+    let finding = Finding::told(find(message, group, watch));
     Surveyed {
         message,
         group,
         finding,
     }
+}
+
+/// Each message of a scenario at each group that it goes to, but for messages that may wait.
+fn targets_of(alloc: Global, scenario: &Scenario) -> Result<Vec<(usize, usize)>, AllocError>
+    ensures targets { IfOk result (λ targets. targets.items ≡ targets_of scenario.now) }
+    ensures lawful { IfOk result (λ targets. All (IsTargetPair scenario.now) targets.items) }
+{
+    let mut targets = Vec::new(alloc);
+    for message in 0..scenario.message_count() {
+        push_message(scenario, message, &mut targets)?;
+    }
+    Ok(targets)
+}
+
+/// Appends a message at each group that it goes to, unless it may wait.
+fn push_message(
+    scenario: &Scenario,
+    message: usize,
+    targets: &mut Vec<(usize, usize)>,
+) -> Result<(), AllocError>
+    requires known { message < length scenario.now.multicasts }
+    requires lawful { All (IsTargetPair scenario.now) targets.old.items }
+    ensures targets { OnOk result (targets.new.items ≡ targets.old.items ++ targets_at scenario.now message) }
+    ensures lawful { OnOk result (All (IsTargetPair scenario.now) targets.new.items) }
+{
+    if 0 < scenario.longest_wait(message) {
+        return Ok(());
+    }
+    for group in scenario.destinations(message) {
+        push_target(scenario, message, *group, targets)?;
+    }
+    Ok(())
+}
+
+/// Appends a message at a group that it goes to; it is one that does not wait.
+fn push_target(
+    _scenario: &Scenario,
+    message: usize,
+    group: usize,
+    targets: &mut Vec<(usize, usize)>,
+) -> Result<(), AllocError>
+    requires target { IsTarget _scenario.now message group }
+    requires lawful { All (IsTargetPair _scenario.now) targets.old.items }
+    ensures targets { OnOk result (targets.new.items ≡ targets.old.items ++ (message, group) ∷ []) }
+    ensures lawful { OnOk result (All (IsTargetPair _scenario.now) targets.new.items) }
+{
+    Ok(targets.push((message, group))?)
 }

@@ -36,8 +36,11 @@ use Rattle.convoy_commands.proofs.WithinTexts.{fault_within}
 use Rattle.convoy_survey.specs.CeilingTables.{CeilingsSay}
 use Rattle.convoy_what_if.specs.WhatIf.{WhatIfSays}
 use Rattle.convoy_budget.specs.Answers.{BudgetSays}
+use Rattle.convoy_sweep.specs.Told.{SweepTold, told_of_sweep}
+use Rattle.convoy_sweep.specs.declared.fault.SweepFault.{SweepFault}
+use Rattle.convoy_sweep.specs.declared.kinds.Sweep.{Sweep}
 use Rattle.convoy_tasks.specs.declared.task.Task.{Task}
-use Rattle.convoy_tasks.specs.declared.task.Task.TheVariants.{First, Tell, Check, Explain, Draw, Ceiling, Ceilings, Analyse, Latency, Survey, WhatIf, Budget, BatchTable}
+use Rattle.convoy_tasks.specs.declared.task.Task.TheVariants.{First, Tell, Check, Explain, Draw, Ceiling, Ceilings, Analyse, Latency, Survey, WhatIf, Budget, Sweep, BatchTable}
 use Rattle.convoy_tasks.specs.Abouts.{check_says}
 use Rattle.convoy_tasks.specs.Tasks.{task_says}
 
@@ -101,6 +104,9 @@ budget_no_device format of_all of_ceiling asked settings text fault (inl faulty)
 budget_no_device format of_all of_ceiling asked settings text fault (inr (inl none)) = rw none.told tt
 budget_no_device format of_all of_ceiling asked settings text fault (inr (inr is)) = rw is.broken.2.1.told tt
 
+sweep_no_device : (format : Format) (sweep : Sweep) (envelope : Bool) (asked : Asked) (settings : Settings) (text : List ℕ) (fault : Fault) → SweepTold format sweep envelope asked settings text (Err fault) → IsNoDevice fault
+sweep_no_device format sweep envelope asked settings text fault says = rw says.told (swept_no_device says.cause)
+
 pub says_no_device : (task : Task) (wanted : Option Scenario) (text : List ℕ) (fault : Fault) → task_says task wanted text (Err fault) → IsNoDevice fault
 says_no_device (First asked) wanted text fault says = first_no_device asked text fault (fault_of_fine (first_text asked text) fault says)
 says_no_device (Tell telling) wanted text fault says = tell_no_device telling text fault says
@@ -117,4 +123,5 @@ says_no_device (Latency with_ceiling asked options) wanted text fault says = lat
 says_no_device (Survey format with_ceilings asked options) wanted text fault says = search_no_device asked text fault says
 says_no_device (WhatIf format shows_all asked options) wanted text fault says = what_if_no_device format shows_all asked options text fault says
 says_no_device (Budget format of_all of_ceiling asked options) wanted text fault says = budget_no_device format of_all of_ceiling asked options text fault says
+says_no_device (Sweep format sweep envelope asked options) wanted text fault says = sweep_no_device format sweep envelope asked options text fault says
 says_no_device (BatchTable format asked options tells_status) wanted text fault says = rw says.0 tt

@@ -17,10 +17,11 @@ use Rattle.convoy_survey.specs.CeilingTables.{CeilingsSay}
 use Rattle.convoy_survey.specs.Surveys.{SurveySays}
 use Rattle.convoy_what_if.specs.WhatIf.{WhatIfSays}
 use Rattle.convoy_budget.specs.Answers.{BudgetSays}
+use Rattle.convoy_sweep.specs.Told.{SweepTold}
 use Rattle.convoy_tasks.specs.declared.batch_table.TheConstants.{LONGEST_BATCH}
 use Rattle.convoy_tasks.specs.BatchTables.{BatchTableSays}
 use Rattle.convoy_tasks.specs.declared.task.Task.{Task}
-use Rattle.convoy_tasks.specs.declared.task.Task.TheVariants.{First, Tell, Check, Explain, Draw, Ceiling, Ceilings, Analyse, Latency, Survey, WhatIf, Budget, BatchTable}
+use Rattle.convoy_tasks.specs.declared.task.Task.TheVariants.{First, Tell, Check, Explain, Draw, Ceiling, Ceilings, Analyse, Latency, Survey, WhatIf, Budget, Sweep, BatchTable}
 use Rattle.convoy_tasks.specs.Abouts.{check_says}
 
 -- THE RULE OF A TASK: what may be answered for a text. The scenario that is wanted, if one is, is that of which a certificate has to be; no other task looks at it.
@@ -37,6 +38,7 @@ task_says (Latency with_ceiling asked options) wanted = latency_says with_ceilin
 task_says (Survey format with_ceilings asked options) wanted = SurveySays format with_ceilings asked options
 task_says (WhatIf format shows_all asked options) wanted = WhatIfSays format shows_all asked options
 task_says (Budget format of_all of_ceiling asked options) wanted = BudgetSays format of_all of_ceiling asked options
+task_says (Sweep format sweep envelope asked options) wanted = SweepTold format sweep envelope asked options
 task_says (BatchTable format asked options tells_status) wanted = BatchTableSays format asked options
 
 -- HOW LONG ITS TEXT MAY BE, in bytes: as long as a certificate's where it may be one, and as long as a job's else
@@ -53,6 +55,7 @@ longest_for (Latency with_ceiling asked options) = LONGEST_JOB
 longest_for (Survey format with_ceilings asked options) = LONGEST_JOB
 longest_for (WhatIf format shows_all asked options) = LONGEST_JOB
 longest_for (Budget format of_all of_ceiling asked options) = LONGEST_JOB
+longest_for (Sweep format sweep envelope asked options) = LONGEST_JOB
 longest_for (BatchTable format asked options tells_status) = LONGEST_BATCH
 
 -- the task is done without a search for the greatest latency
@@ -62,5 +65,6 @@ NeedsNoSearch (Latency with_ceiling asked options) = ⊥
 NeedsNoSearch (Survey format with_ceilings asked options) = ⊥
 NeedsNoSearch (WhatIf format shows_all asked options) = ⊥
 NeedsNoSearch (Budget format of_all of_ceiling asked options) = ⊥
+NeedsNoSearch (Sweep format sweep envelope asked options) = ⊥
 NeedsNoSearch (BatchTable format asked options tells_status) = ⊥
 NeedsNoSearch other = Unit {0}

@@ -1,4 +1,4 @@
-ghost use Rattle.std.specs.Prelude.{◌≡◌, string_bytes};
+ghost use Rattle.std.specs.Prelude.{◌≡◌, ◌<◌, length, string_bytes};
 ghost use Rattle.std.specs.Option.{option_map};
 ghost use Rattle.convoy_commands.specs.Replies.{SaysUnlessMemory, reply_of};
 ghost use Rattle.convoy_commands.specs.WithCeilings.{explain_says};
@@ -17,6 +17,7 @@ use convoy_commands::{
 };
 use convoy_scenario::{Scenario, TimeUnit};
 use convoy_survey::{ceilings_answer, survey_answer};
+use convoy_sweep::sweep_told;
 use convoy_tables::Format;
 use convoy_toml::Asked;
 use convoy_what_if::what_if_answer;
@@ -25,11 +26,13 @@ use std::sync::Wait;
 use std::thread::Threads;
 
 /// Answers a task for a text: how it ends, what is to be written, and what is known besides. A certificate has to be of
-/// the scenario that is wanted, if one is; no other task looks at that. Each search is watched, by
-/// [`NoGate`](convoy_branch::NoGate) where nobody watches: who watches counts the seconds that its options give it.
+/// the scenario that is wanted, if one is; no other task looks at that. The rows of a table are made
+/// as many at a time as there are watches, and one search alone is watched by the first; [`NoGate`](convoy_branch::NoGate)
+/// is a watch where nobody watches. Who watches counts the seconds that the options give a search.
 ///
 /// The faults are those of a text: `Fault::Scenario` where it is that of no scenario, where none of its groups has the
-/// name that is given, or where a change of it makes none; `Fault::Schedule` and `Fault::Order` for a schedule that is
+/// name that is given, or where a change of it makes none; `Fault::Sweep` where its keys can't be given the values of a
+/// sweep; `Fault::Schedule` and `Fault::Order` for a schedule that is
 /// none of it; `Fault::Reading` for a scenario of more than [`LONGEST_JOB`] bytes where a certificate may be longer;
 /// `Fault::TooManyJobs`; and `Fault::Memory`.
 pub fn answer<R: Threads + Wait + Sync, W: Watch + Sync>(
@@ -38,20 +41,21 @@ pub fn answer<R: Threads + Wait + Sync, W: Watch + Sync>(
     task: &Task,
     wanted: Option<&Scenario>,
     text: &[u8],
-    watch: &W,
+    watches: &[W],
 ) -> Result<Answer, Fault>
+    requires { 0 < length watches.now }
     ensures { SaysUnlessMemory (task_says task.now (option_map (λ s. s.now) wanted.entry)) text.now
         (reply_of result) }
 {
     match task {
         Task::Analyse { asked, options } => {
-            analyse_answer(rt, alloc, asked, text, options, watch)
+            analyse_answer(rt, alloc, asked, text, options, &watches[0])
         }
         Task::Latency {
             with_ceiling,
             asked,
             options,
-        } => latency_answer(rt, alloc, *with_ceiling, asked, text, options, watch),
+        } => latency_answer(rt, alloc, *with_ceiling, asked, text, options, &watches[0]),
         Task::Survey {
             format,
             with_ceilings,
@@ -65,14 +69,23 @@ pub fn answer<R: Threads + Wait + Sync, W: Watch + Sync>(
             asked,
             options,
             text,
-            watch,
+            watches,
         ),
         Task::WhatIf {
             format,
             shows_all,
             asked,
             options,
-        } => what_if_answer(rt, alloc, *format, *shows_all, asked, options, text, watch),
+        } => what_if_answer(
+            rt,
+            alloc,
+            *format,
+            *shows_all,
+            asked,
+            options,
+            text,
+            &watches[0],
+        ),
         Task::Budget {
             format,
             of_all,
@@ -88,14 +101,23 @@ pub fn answer<R: Threads + Wait + Sync, W: Watch + Sync>(
             asked,
             options,
             text,
-            watch,
+            &watches[0],
+        ),
+        Task::Sweep {
+            format,
+            sweep,
+            envelope,
+            asked,
+            options,
+        } => sweep_told(
+            rt, alloc, *format, sweep, *envelope, asked, options, text, watches,
         ),
         Task::BatchTable {
             format,
             asked,
             options,
             ..
-        } => batch_table_answer(rt, alloc, asked, options, *format, text, watch),
+        } => batch_table_answer(rt, alloc, asked, options, *format, text, &watches[0]),
         Task::First { .. }
         | Task::Tell(_)
         | Task::Check { .. }
@@ -146,6 +168,7 @@ pub(crate) fn answer_at_once(
         | Task::Survey { .. }
         | Task::WhatIf { .. }
         | Task::Budget { .. }
+        | Task::Sweep { .. }
         | Task::BatchTable { .. } => unreachable!(),
     }
 }
@@ -206,6 +229,7 @@ pub fn longest_of(task: &Task) -> usize
         | Task::Latency { .. }
         | Task::Survey { .. }
         | Task::WhatIf { .. }
-        | Task::Budget { .. } => LONGEST_JOB,
+        | Task::Budget { .. }
+        | Task::Sweep { .. } => LONGEST_JOB,
     }
 }

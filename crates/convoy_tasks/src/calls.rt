@@ -144,7 +144,7 @@ pub fn run_analyse<R: Threads + Wait + Sync, S: Source, K: Sink>(
         options: *options,
     };
     let most_reads = options.most_reads();
-    Ok(run_task(rt, alloc, &task, None, source, sink, most_reads, &NoGate)?.done)
+    Ok(run_task(rt, alloc, &task, None, source, sink, most_reads, &[NoGate])?.done)
 }
 
 /// The command `latency`: reads a scenario to the end of the source, and writes its greatest latency
@@ -177,5 +177,5 @@ pub fn run_latency<R: Threads + Wait + Sync, S: Source, K: Sink>(
         options: *options,
     };
     let most_reads = options.most_reads();
-    Ok(run_task(rt, alloc, &task, None, source, sink, most_reads, &NoGate)?.done)
+    Ok(run_task(rt, alloc, &task, None, source, sink, most_reads, &[NoGate])?.done)
 }

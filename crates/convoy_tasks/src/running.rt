@@ -3,7 +3,7 @@ ghost use Rattle.convoy_streams.specs.Devices.{HasRun};
 ghost use Rattle.convoy_commands.specs.Replies.{reply_of};
 ghost use Rattle.convoy_tasks.specs.Runs.{IsRun, WritesReply, done_of};
 ghost use Rattle.convoy_tasks.specs.Tasks.{NeedsNoSearch, longest_for, task_says};
-ghost use Rattle.std.specs.Prelude.{None};
+ghost use Rattle.std.specs.Prelude.{◌<◌, None, length};
 
 use super::answering::{answer, answer_at_once, longest_of};
 use super::ended::Ended;
@@ -30,13 +30,14 @@ pub fn run_task<R: Threads + Wait + Sync, S: Source, K: Sink, W: Watch + Sync>(
     source: &mut S,
     sink: &mut K,
     most_reads: u64,
-    watch: &W,
+    watches: &[W],
 ) -> Result<Ended, Fault>
+    requires { 0 < length watches.now }
     ensures { IsRun (longest_for task.now) (task_says task.now (option_map (λ s. s.now) wanted.entry)) most_reads
         S.reads K.writes source.old source.new sink.old sink.new (done_of result) }
 {
     let text = read_to_end(alloc, source, longest_of(task), most_reads)?;
-    write_answer(sink, answer(rt, alloc, task, wanted, &text, watch))
+    write_answer(sink, answer(rt, alloc, task, wanted, &text, watches))
 }
 
 /// The same of a task that needs no search, and so no threads; no scenario is wanted.

@@ -1,4 +1,5 @@
 use convoy_commands::{Options, Telling, TimeUnit};
+use convoy_sweep::Sweep;
 use convoy_tables::Format;
 use convoy_toml::Asked;
 
@@ -81,6 +82,15 @@ pub enum Task {
         format: Format,
         of_all: bool,
         of_ceiling: bool,
+        asked: Asked,
+        options: Options,
+    },
+    /// The greatest latency with each value of one key of the text, or of two, as a table in that format; and whether a
+    /// row is to speak of all times of issue from one value to the next.
+    Sweep {
+        format: Format,
+        sweep: Sweep,
+        envelope: bool,
         asked: Asked,
         options: Options,
     },

@@ -1,0 +1,4 @@
+pub mod Enclosing
+pub mod Giving
+pub mod Making
+mod Worked

@@ -1,0 +1,215 @@
+//! What is known of a text before anything is searched.
+
+ghost use Rattle.std.specs.Prelude.{◌≡◌, ◌⊎◌, Ok, Err, IfOk, IfErr};
+ghost use Rattle.convoy_draft.specs.declared.fault.ScenarioFault.TheVariants.{Memory};
+ghost use Rattle.convoy_scenario.specs.Memory.{IsUnlessMemory};
+ghost use Rattle.convoy_toml.specs.Reading.{deadlines_of_text, scenario_of_written, unit_written};
+ghost use Rattle.convoy_toml.specs.Ways.{has_ranges};
+ghost use Rattle.convoy_sweep.specs.declared.fault.SweepFault.TheVariants.{Text};
+ghost use Rattle.convoy_sweep.specs.Points.{all_made, held, listed, made_at, made_in, prepared_of, scenario_at, seen, told_at, with_second, written_at, written_of_text};
+
+use super::changing::with_key;
+use super::fault::SweepFault;
+use super::kinds::{Given, Point, Setting, Sweep};
+use super::points::{points_of, ranges_in};
+use convoy_scenario::{DraftScenario, Duration, Scenario, ScenarioFault, Time};
+use convoy_toml::{
+    Asked, Input, WrittenScenario, draft_of_written, read_table, read_toml_asked, tick_of,
+    ways_without_link, written_of_table,
+};
+use std::alloc::{AllocError, Global};
+
+/// A point of a sweep, with the scenario that the text makes there.
+#[derive(Drop)]
+pub struct Made {
+    pub point: Point,
+    pub scenario: Scenario,
+}
+
+/// What is known of a text before anything is searched: what it holds itself, and the points of a sweep of it, with
+/// their scenarios.
+#[derive(Drop)]
+pub struct Prepared {
+    pub input: Input,
+    pub made: Vec<Made>,
+}
+
+/// Reads a text, where that is asked, and makes the scenario at each point of a sweep of it, in the order of the rows; as
+/// windows, if that is asked. The first fault is told: of the text itself, then of the first setting and of the second,
+/// and then of the first point at which the text makes no scenario.
+pub fn prepare(
+    alloc: Global,
+    sweep: &Sweep,
+    envelope: bool,
+    asked: &Asked,
+    text: &[u8],
+) -> Result<Prepared, SweepFault>
+    ensures value { IfOk result (λ prepared. prepared_of sweep.now envelope asked.now text.now ≡ Ok (seen prepared)) }
+    ensures err { IfErr result (λ fault.
+        (prepared_of sweep.now envelope asked.now text.now ≡ Err fault) ⊎ (fault ≡ Text Memory)) }
+    ensures unit { IfOk result (λ prepared. prepared.input.unit ≡ unit_written text.now) }
+    ensures deadlines { IfOk result (λ prepared.
+        prepared.input.deadlines.items ≡ deadlines_of_text asked.now text.now) }
+{
+    let written = written_of_text(alloc, asked, text)?;
+    let input = read_toml_asked(alloc, text, asked)?;
+    let tick = tick_of(alloc, &written)?;
+    let made = made_in(alloc, sweep, envelope, written, tick)?;
+    Ok(Prepared { input, made })
+}
+
+/// What a text writes of a scenario, where that is asked.
+fn written_of_text(
+    alloc: Global,
+    asked: &Asked,
+    text: &[u8],
+) -> Result<WrittenScenario, ScenarioFault>
+    ensures { IsUnlessMemory Memory (written_of_text asked.now text.now) result }
+{
+    let table = read_table(alloc, text)?;
+    let written = written_of_table(alloc, &table, &asked.target)?;
+    Ok(written.scenario)
+}
+
+/// The points of a sweep of the text that is written so, with this length of a tick, and their scenarios.
+fn made_in(
+    alloc: Global,
+    sweep: &Sweep,
+    envelope: bool,
+    written: WrittenScenario,
+    tick: Option<Duration>,
+) -> Result<Vec<Made>, SweepFault>
+    ensures { IsUnlessMemory (Text Memory) (made_in sweep.now envelope written tick) (listed result) }
+{
+    let ranges = ranges_in(&written, length_of(&tick), envelope, sweep)?;
+    let points = points_of(alloc, envelope, ranges)?;
+    let held = held(tick, written);
+    all_made(alloc, sweep, &held, &points)
+}
+
+/// The nanoseconds of a tick, if there is one.
+fn length_of(tick: &Option<Duration>) -> Option<u64>
+    ensures { result ≡ tick.now }
+{
+    match tick {
+        Some(tick) => Some(tick.nanoseconds()),
+        None => None,
+    }
+}
+
+/// What is written, with this length of a tick whatever its times are.
+fn held(tick: Option<Duration>, written: WrittenScenario) -> WrittenScenario
+    ensures { result ≡ held tick written }
+{
+    let mut held = written;
+    held.tick = tick;
+    held
+}
+
+/// These points with their scenarios, or the fault of the first that makes none.
+fn all_made(
+    alloc: Global,
+    sweep: &Sweep,
+    written: &WrittenScenario,
+    points: &[Point],
+) -> Result<Vec<Made>, SweepFault>
+    ensures { IsUnlessMemory (Text Memory) (all_made sweep.now written.now points.now) (listed result) }
+{
+    let mut made = Vec::new(alloc);
+    for point in points {
+        let one = made_at(alloc, sweep, written, *point)?;
+        made.push(one)?;
+    }
+    Ok(made)
+}
+
+/// A point with its scenario.
+fn made_at(
+    alloc: Global,
+    sweep: &Sweep,
+    written: &WrittenScenario,
+    point: Point,
+) -> Result<Made, SweepFault>
+    ensures { IsUnlessMemory (Text Memory) (made_at sweep.now written.now point) result }
+{
+    match scenario_at(alloc, sweep, written, point) {
+        Ok(scenario) => Ok(Made { point, scenario }),
+        Err(cause) => Err(told_at(point, cause)),
+    }
+}
+
+/// The fault of a point, at which what is written makes no scenario.
+fn told_at(point: Point, cause: ScenarioFault) -> SweepFault
+    ensures { result ≡ told_at point cause }
+{
+    match cause {
+        ScenarioFault::Memory => SweepFault::Text(ScenarioFault::Memory),
+        cause => SweepFault::Value(point, cause),
+    }
+}
+
+/// The scenario at a point.
+fn scenario_at(
+    alloc: Global,
+    sweep: &Sweep,
+    written: &WrittenScenario,
+    point: Point,
+) -> Result<Scenario, ScenarioFault>
+    ensures { IsUnlessMemory Memory (scenario_at sweep.now written.now point) result }
+{
+    let changed = written_at(alloc, sweep, point, written)?;
+    scenario_of_written(alloc, &changed)
+}
+
+/// What is written at a point. Fails where memory runs out, and else never.
+fn written_at(
+    alloc: Global,
+    sweep: &Sweep,
+    point: Point,
+    written: &WrittenScenario,
+) -> Result<WrittenScenario, AllocError>
+    ensures { IfOk result (λ changed. changed ≡ written_at sweep.now point written.now) }
+{
+    let changed = with_key(alloc, &sweep.first.key, point.first, written)?;
+    with_second(alloc, &sweep.second, point.second, changed)
+}
+
+/// What is written where a second key, if there is one, has its value.
+fn with_second(
+    alloc: Global,
+    setting: &Option<Setting>,
+    given: Option<Given>,
+    written: WrittenScenario,
+) -> Result<WrittenScenario, AllocError>
+    ensures { IfOk result (λ changed. changed ≡ with_second setting.now given written) }
+{
+    match (setting, given) {
+        (Some(setting), Some(given)) => with_key(alloc, &setting.key, given, &written),
+        (None, _) | (Some(_), None) => Ok(written),
+    }
+}
+
+/// The scenario of what is written, in which a packet that travels has a range that is written, where time is real.
+fn scenario_of_written(alloc: Global, written: &WrittenScenario) -> Result<Scenario, ScenarioFault>
+    ensures { IsUnlessMemory Memory (scenario_of_written written.now) result }
+{
+    let draft = draft_of_written(alloc, written)?;
+    let has_ranges = has_ranges(alloc, written.least.is_some(), &draft)?;
+    let scenario = Scenario::from_draft(alloc, draft)?;
+    if has_ranges {
+        Ok(scenario)
+    } else {
+        Err(ScenarioFault::NoRange)
+    }
+}
+
+/// Whether each packet that travels has a range that is written; in whole ticks it is 1 to D where nothing is written.
+fn has_ranges(alloc: Global, has_least: bool, draft: &DraftScenario) -> Result<bool, AllocError>
+    ensures { IfOk result (λ has. has ≡ has_ranges has_least draft.now) }
+{
+    match draft.time {
+        Time::Ticks => Ok(true),
+        Time::Real if has_least => Ok(true),
+        Time::Real => Ok(ways_without_link(alloc, draft)?.is_empty()),
+    }
+}
