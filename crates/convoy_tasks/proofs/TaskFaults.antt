@@ -38,7 +38,8 @@ use Rattle.convoy_what_if.specs.WhatIf.{WhatIfSays}
 use Rattle.convoy_budget.specs.Answers.{BudgetSays}
 use Rattle.convoy_sweep.specs.Told.{SweepTold, told_of_sweep}
 use Rattle.convoy_sweep.specs.declared.fault.SweepFault.{SweepFault}
-use Rattle.convoy_sweep.specs.declared.kinds.Sweep.{Sweep}
+use Rattle.convoy_sweep.specs.declared.fault.SweepFault.TheVariants as sweeps
+use Rattle.convoy_sweep.specs.declared.kinds.Sweep.{Sweep as AskedSweep}
 use Rattle.convoy_tasks.specs.declared.task.Task.{Task}
 use Rattle.convoy_tasks.specs.declared.task.Task.TheVariants.{First, Tell, Check, Explain, Draw, Ceiling, Ceilings, Analyse, Latency, Survey, WhatIf, Budget, Sweep, BatchTable}
 use Rattle.convoy_tasks.specs.Abouts.{check_says}
@@ -104,7 +105,16 @@ budget_no_device format of_all of_ceiling asked settings text fault (inl faulty)
 budget_no_device format of_all of_ceiling asked settings text fault (inr (inl none)) = rw none.told tt
 budget_no_device format of_all of_ceiling asked settings text fault (inr (inr is)) = rw is.broken.2.1.told tt
 
-sweep_no_device : (format : Format) (sweep : Sweep) (envelope : Bool) (asked : Asked) (settings : Settings) (text : List ℕ) (fault : Fault) → SweepTold format sweep envelope asked settings text (Err fault) → IsNoDevice fault
+-- why there is no sweep is no device's fault
+swept_no_device : (cause : SweepFault) → IsNoDevice (told_of_sweep cause)
+swept_no_device (sweeps.Text cause) = no_device_in_scenario cause
+swept_no_device (sweeps.First cause) = tt
+swept_no_device (sweeps.Second cause) = tt
+swept_no_device sweeps.SameKey = tt
+swept_no_device sweeps.TooManyRows = tt
+swept_no_device (sweeps.Value point cause) = tt
+
+sweep_no_device : (format : Format) (sweep : AskedSweep) (envelope : Bool) (asked : Asked) (settings : Settings) (text : List ℕ) (fault : Fault) → SweepTold format sweep envelope asked settings text (Err fault) → IsNoDevice fault
 sweep_no_device format sweep envelope asked settings text fault says = rw says.told (swept_no_device says.cause)
 
 pub says_no_device : (task : Task) (wanted : Option Scenario) (text : List ℕ) (fault : Fault) → task_says task wanted text (Err fault) → IsNoDevice fault
