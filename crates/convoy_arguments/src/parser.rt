@@ -78,7 +78,8 @@ fn valued_argument<'a>(alloc: Global, setting: Setting) -> Arg<'a> {
         Value::Several(name, parser) => argument
             .value_name(name)
             .value_parser(parser)
-            .action(ArgAction::Append),
+            .action(ArgAction::Append)
+            .required(true),
         Value::Usual(name, parser, usual) => argument
             .value_name(name)
             .value_parser(parser)

@@ -70,7 +70,7 @@ pub(crate) enum Value {
     Absent,
     /// One that help calls by this word, and that has to be so.
     Given(&'static str, ValueParser<'static>),
-    /// The same, of an option that may be given more than once.
+    /// The same, of an option that has to be given, once or more often.
     Several(&'static str, ValueParser<'static>),
     /// One as `Given`, with the one that it has where the option is not given.
     Usual(&'static str, ValueParser<'static>, &'static str),
