@@ -361,8 +361,8 @@ gives a key of it: the greatest latency of the target in the scenario with that 
   convoy sweep --set t.at=0..10/5 scenario.toml
   t.at  answer    least  most  rival  tied  nodes
      0  greatest     12    12  y      x         1
-     5  greatest      9     9  y      -         1
-    10  greatest      7     7  -      -         1
+     5  greatest      7     7  y      -         1
+    10  greatest      6     6  -      -         1
 A key is `delay`, MESSAGE.at, MESSAGE.until, FROM-TO.least or FROM-TO.most, where FROM
 is a group or `client`, and a link from there is in the scenario. The values go from
 FROM in steps up to at most TO, each in ticks or as '10 ms', as the scenario's own
