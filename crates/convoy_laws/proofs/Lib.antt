@@ -11,6 +11,7 @@ pub mod TighterStarts
 pub mod ClosedInside
 pub mod Used
 pub mod Ceiling
+pub mod Offset
 pub mod Scaled
 pub mod Lists
 pub mod SameParts
@@ -22,6 +23,8 @@ pub mod SameRun
 pub mod Rounded
 pub mod Delivered
 pub mod Matched
+pub mod SameTimes
+pub mod IssueTimes
 pub mod Stretched
 pub mod Travelled
 pub mod FinerRanges

@@ -6,7 +6,6 @@ use Rattle.std.proofs.lemmas.List.Elements.{All-map}
 use Rattle.std.proofs.lemmas.List.FromFn.{length-range_with_len, length-map-range_with_len, get_or-map-range_with_len}
 use Rattle.convoy_draft.specs.declared.time.Time.TheVariants.{Ticks, Real}
 use Rattle.convoy_scenario.specs.Scenario.{Scenario, GoesTo, no_message, message_at, message_numbers, is_addressed}
-use Rattle.convoy_scenario.specs.WellFormed.{IsScenario}
 use Rattle.convoy_packets.specs.declared.order.TheConstants.{GREATEST_RANK}
 use Rattle.convoy_packets.specs.Order.{Order, IsOrder, AreRanks, rank_at}
 use Rattle.convoy_packets.specs.Assignment.{Schedule}
@@ -16,7 +15,7 @@ use Rattle.convoy_sim.proofs.Membership.{IsIn, in-flat_map, in_of_range, all-in}
 use Rattle.convoy_sim.proofs.Addressed.{in_of_goes, in-numbers, number_of_goes}
 use Rattle.convoy_sim.proofs.MomentsOrder.{before_itself, before_trans}
 use Rattle.convoy_packets.proofs.Lists.{length-increasing-le}
-use Rattle.convoy_laws.specs.FinerTicks.{IsFiner}
+use Rattle.convoy_laws.specs.FinerTicks.{IsFiner, IsRoundable}
 use Rattle.convoy_laws.proofs.Lists.{filter_less, filter_not_all, flat_map_few}
 use Rattle.convoy_laws.proofs.SameParts.{same_message, same_numbers, goes_too}
 
@@ -79,21 +78,21 @@ in_unordered plan schedule m g c goes i =
     (in-flat_map (moments_at plan schedule m) g c (message_at plan m).destinations (in_of_goes plan m g goes) i)
 
 -- a message goes to eight groups at most, and a group has one of the first eight numbers
-few_destinations : (plan : Scenario) → IsScenario plan → (m : ℕ) → m < length plan.multicasts → length (message_at plan m).destinations ≤ 8
+few_destinations : (plan : Scenario) → IsRoundable plan → (m : ℕ) → m < length plan.multicasts → length (message_at plan m).destinations ≤ 8
 few_destinations plan well m l =
     let message = well.messages m no_message l in
     let few = length-increasing-le (message_at plan m).destinations (length plan.groups) message.ascending message.known in
     let most = well.groups_high in
     omega arith
 
-group_below : (plan : Scenario) → IsScenario plan → (m g : ℕ) → GoesTo plan m g → g < 8
+group_below : (plan : Scenario) → IsRoundable plan → (m g : ℕ) → GoesTo plan m g → g < 8
 group_below plan well m g goes =
     let known = (well.messages m no_message (number_of_goes plan m g goes)).known in
     let here = all-in (λ h. h < length plan.groups) g (message_at plan m).destinations known (in_of_goes plan m g goes) in
     let most = well.groups_high in
     omega arith
 
-module _ (k : ℕ) (plan fine : Scenario) (is : IsFiner k plan fine) (well : IsScenario plan) (schedule : Schedule) where
+module _ (k : ℕ) (plan fine : Scenario) (is : IsFiner k plan fine) (well : IsRoundable plan) (schedule : Schedule) where
   pub arrival_among : (m g : ℕ) → GoesTo plan m g → IsIn (arrival_of fine schedule m g) (unordered_moments fine schedule)
   arrival_among m g goes = in_unordered fine schedule m g _ (goes_too k plan fine is m g goes) (inl refl)
 

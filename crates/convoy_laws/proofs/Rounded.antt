@@ -1,9 +1,8 @@
 -- The run in whole ticks has the moments of the one in finer ticks in the same order, each rounded up.
-use Rattle.std.proofs.Common.{◌≡◌, ℕ, ◌≤◌, ◌==◌, max, true, false, inl, inr, List, ◌∷◌, map, fold, refl, sym, ap, ap₂, subst, ◌∙◌, arith}
+use Rattle.std.proofs.Common.{◌≡◌, ℕ, ◌<◌, ◌≤◌, ◌==◌, max, true, false, inl, inr, List, ◌∷◌, map, fold, refl, sym, ap, ap₂, subst, ◌∙◌, arith}
 use Rattle.std.proofs.lemmas.Bool.{cases_Bool, cond_both}
 use Rattle.convoy_draft.specs.declared.time.Time.TheVariants.{Real}
 use Rattle.convoy_scenario.specs.Scenario.{Scenario, GoesTo, message_at}
-use Rattle.convoy_scenario.specs.WellFormed.{IsScenario}
 use Rattle.convoy_packets.specs.Order.{rank_at}
 use Rattle.convoy_packets.specs.Assignment.{Schedule}
 use Rattle.convoy_sim.specs.declared.moment.Moment.{Moment}
@@ -14,9 +13,9 @@ use Rattle.convoy_sim.proofs.Membership.{IsIn, in_of_map}
 use Rattle.convoy_sim.proofs.Addressed.{goes_from_in}
 use Rattle.convoy_sim.proofs.MomentsOrder.{before_one_way, before_itself, coming_before_commit, same_moment}
 use Rattle.convoy_sim.proofs.MomentTicks.{tick_of_before}
-use Rattle.convoy_laws.specs.FinerTicks.{IsFiner}
+use Rattle.convoy_laws.specs.FinerTicks.{IsFiner, IsRoundable}
 use Rattle.convoy_laws.proofs.Used.{Used}
-use Rattle.convoy_laws.proofs.Ceiling.{up, up_rises}
+use Rattle.convoy_laws.proofs.Offset.{up_from, from_rises}
 use Rattle.convoy_laws.proofs.Lists.{greatest_first}
 use Rattle.convoy_laws.proofs.SameParts.{same_message, same_numbers, goes_too}
 use Rattle.convoy_laws.proofs.Delays.{whole_in, arrives, settles}
@@ -25,32 +24,32 @@ use Rattle.convoy_laws.proofs.MomentOrder.{before_by_rank, arrival_rank_commit}
 use Rattle.convoy_laws.proofs.SameRun.{IsMoved, moment_at, moved}
 
 -- a moment rounded up to whole ticks, with its rank among others
-abbrev whole_moment : ℕ → List Moment → Moment → Moment
-whole_moment k moments = moved (λ x. up k x.tick) (rank_among moments)
+abbrev whole_moment : ℕ → ℕ → List Moment → Moment → Moment
+whole_moment k o moments = moved (λ x. up_from k o x.tick) (rank_among moments)
 
-module _ (k : ℕ) (some : 1 ≤ k) (moments : List Moment) where
-  stays_before : (x y : Moment) → IsIn x moments → is_before x y ≡ true → is_before (whole_moment k moments x) (whole_moment k moments y) ≡ true
+module _ (k : ℕ) (some : 1 ≤ k) (o : ℕ) (less : o < k) (moments : List Moment) where
+  stays_before : (x y : Moment) → IsIn x moments → is_before x y ≡ true → is_before (whole_moment k o moments x) (whole_moment k o moments y) ≡ true
   stays_before x y i b =
-      before_by_rank (whole_moment k moments x) (whole_moment k moments y) (up_rises k some x.tick y.tick (tick_of_before x y b))
+      before_by_rank (whole_moment k o moments x) (whole_moment k o moments y) (from_rises k some o less x.tick y.tick (tick_of_before x y b))
       (rank_rises moments x y i b)
 
-  before_same : (x y : Moment) → IsIn x moments → IsIn y moments → is_before (whole_moment k moments x) (whole_moment k moments y) ≡ is_before x y
+  before_same : (x y : Moment) → IsIn x moments → IsIn y moments → is_before (whole_moment k o moments x) (whole_moment k o moments y) ≡ is_before x y
   before_same x y i j = elim (cases_Bool (is_before x y)) [
     | inl b ↦ stays_before x y i b ∙ sym b
     | inr n ↦ elim (cases_Bool (is_before y x)) [
-      | inl b ↦ before_one_way (whole_moment k moments y) (whole_moment k moments x) (stays_before y x j b) ∙ sym n
-      | inr o ↦
-          let same : x ≡ y = same_moment x y n o in
-          subst (λ z. is_before (whole_moment k moments x) (whole_moment k moments z) ≡ false) same (before_itself (whole_moment k moments x)) ∙ sym n
+      | inl b ↦ before_one_way (whole_moment k o moments y) (whole_moment k o moments x) (stays_before y x j b) ∙ sym n
+      | inr other ↦
+          let same : x ≡ y = same_moment x y n other in
+          subst (λ z. is_before (whole_moment k o moments x) (whole_moment k o moments z) ≡ false) same (before_itself (whole_moment k o moments x)) ∙ sym n
     ]
   ]
 
-module _ (used : Used) (k : ℕ) (plan fine : Scenario) (is : IsFiner k plan fine) (well : IsScenario plan) (real : plan.time ≡ Real) (schedule : Schedule) where
+module _ (used : Used) (k : ℕ) (plan fine : Scenario) (is : IsFiner k plan fine) (o : ℕ) (less : o < k) (well : IsRoundable plan) (real : plan.time ≡ Real) (schedule : Schedule) where
   abbrev all : List Moment
   all = unordered_moments fine schedule
 
   abbrev whole : Schedule
-  whole = whole_in k plan fine schedule (order_among plan fine schedule)
+  whole = whole_in k o plan fine schedule (order_among plan fine schedule)
 
   arrival_rank_is : (m g : ℕ) → GoesTo plan m g → arrival_rank plan whole m g ≡ rank_among all (arrival_of fine schedule m g)
   unfolding arrival_rank
@@ -86,12 +85,12 @@ module _ (used : Used) (k : ℕ) (plan fine : Scenario) (is : IsFiner k plan fin
             (cond_both (arrive plan whole m r.0 == settle plan whole m g) (arrival_rank plan whole m r.0) 0
             (λ n. n ≤ rank_among all (commit_of fine schedule m g)) (λ e. arrival_low r.0 r.1) (λ e. omega arith))
 
-  pub is_rounded : IsMoved (λ x. up k x.tick) (rank_among all) plan whole fine schedule
+  pub is_rounded : IsMoved (λ x. up_from k o x.tick) (rank_among all) plan whole fine schedule
   is_rounded = record {
     numbers = same_numbers k plan fine is;
     destinations = λ m. (same_message k plan fine is m).destinations;
     groups = is.groups;
-    arrivals = λ m g goes. ap₂ (moment_at Arrival m g) (arrives used k plan fine is schedule (order_among plan fine schedule) m g) (arrival_rank_is m g goes);
-    commits = λ m g goes. ap₂ (moment_at Commit m g) (settles used k plan fine is schedule (order_among plan fine schedule) m g) (commit_rank_is m g goes);
-    before = before_same k is.some all;
+    arrivals = λ m g goes. ap₂ (moment_at Arrival m g) (arrives used k plan fine is o less schedule (order_among plan fine schedule) m g) (arrival_rank_is m g goes);
+    commits = λ m g goes. ap₂ (moment_at Commit m g) (settles used k plan fine is o less schedule (order_among plan fine schedule) m g) (commit_rank_is m g goes);
+    before = before_same k is.some o less all;
   }

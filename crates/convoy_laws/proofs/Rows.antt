@@ -117,3 +117,30 @@ half_ticks_held = refl
 ticks_held : latency_of waiting (in_fixed_order (3 ∷ 3 ∷ 3 ∷ 3 ∷ 3 ∷ 1 ∷ 3 ∷ 3 ∷ 3 ∷ [])) ≡ 12
 unfolding waiting in_ticks base_with message packets_of delay_of arrive settle arrival_rank commit_rank no_order moments_of clocks_of local_stamp final_stamp holds_back deliver latency_at latency_of
 ticks_held = refl
+
+-- t may be issued at tick 0 or 1
+unfoldable target_waiting : Scenario
+target_waiting = record in_ticks {
+  multicasts = message (codes "x") Client (1 ∷ []) 0 ∷ record (message (codes "t") Client (0 ∷ 1 ∷ []) 0) { longest_wait = 1 }
+      ∷ message (codes "y") (Group 0) (0 ∷ 1 ∷ []) 6 ∷ [];
+}
+
+unfoldable target_waiting_in_half_ticks : Scenario
+target_waiting_in_half_ticks = record in_half_ticks {
+  multicasts = message (codes "x") Client (1 ∷ []) 0 ∷ record (message (codes "t") Client (0 ∷ 1 ∷ []) 0) { longest_wait = 2 }
+      ∷ message (codes "y") (Group 0) (0 ∷ 1 ∷ []) 12 ∷ [];
+}
+
+-- where it is issued at half tick 1 it is 23 half ticks late ..
+half_ticks_from_issue : latency_of target_waiting_in_half_ticks (in_fixed_order (6 ∷ 1 ∷ replicate 7 6)) ≡ 23
+unfolding target_waiting_in_half_ticks in_half_ticks half_link base_with message packets_of delay_of arrive settle arrival_rank commit_rank no_order moments_of clocks_of local_stamp final_stamp holds_back deliver latency_at latency_of
+half_ticks_from_issue = refl
+
+-- .. and 12 ticks with its issue at tick 0 and each other time less half a tick rounded up; with its issue rounded up, too, it would be 11
+ticks_from_issue : latency_of target_waiting (in_fixed_order (3 ∷ 0 ∷ replicate 7 3)) ≡ 12
+unfolding target_waiting in_ticks base_with message packets_of delay_of arrive settle arrival_rank commit_rank no_order moments_of clocks_of local_stamp final_stamp holds_back deliver latency_at latency_of
+ticks_from_issue = refl
+
+ticks_from_issue_rounded_up : latency_of target_waiting (in_fixed_order (3 ∷ 1 ∷ replicate 7 3)) ≡ 11
+unfolding target_waiting in_ticks base_with message packets_of delay_of arrive settle arrival_rank commit_rank no_order moments_of clocks_of local_stamp final_stamp holds_back deliver latency_at latency_of
+ticks_from_issue_rounded_up = refl

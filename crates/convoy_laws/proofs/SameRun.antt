@@ -77,7 +77,7 @@ module _ (tick rank : Moment → ℕ) where
         (λ m. flat_map (moments_at other run m) (message_at other m).destinations) (message_numbers plan) (λ m i. moments_of_message m)
         ∙ ap (λ ms. map move (flat_map (λ m. flat_map (moments_at other run m) (message_at other m).destinations) ms)) (sym is.numbers)
 
-    moments_are : moments_of plan schedule ≡ map move (moments_of other run)
+    pub moments_are : moments_of plan schedule ≡ map move (moments_of other run)
     unfolding moments_of
     moments_are =
         ap (fold insert_moment []) unordered_are

@@ -24,7 +24,7 @@ use Rattle.convoy_toml.specs.Times.{draft_of_written, need_least, tick_of}
 use Rattle.convoy_toml.specs.Ways.{has_ranges, with_least}
 use Rattle.convoy_toml.proofs.FinerDrafts.{after_ok, drafts_finer, finer_ticks, of_tick, plain_draft, same_ok, tick_kept}
 use Rattle.convoy_laws.specs.FinerTexts.{GreatestOfFinerTexts, HaveSameGreatest, written_of_text}
-use Rattle.convoy_laws.specs.FinerTicks.{GreatestInFinerTicks, GreatestIsWhole}
+use Rattle.convoy_laws.specs.FinerTicks.{GreatestInFinerTicks, GreatestIsWhole, ScenariosAreRoundable}
 use Rattle.convoy_laws.proofs.FinerScenarios.{AreRead, finer_draft, is_finer, least_keeps, same_ranges, when_ok}
 
 -- the laws that it takes
@@ -33,6 +33,7 @@ pub record Grounds : Type 0 where
   pub in_whole : GreatestIsWhole
   pub keeps : OrderKeepsRanges
   pub drafts : DraftsGiveScenarios
+  pub roundable : ScenariosAreRoundable
 
 -- ---- what is read of a text
 
@@ -83,7 +84,7 @@ same_greatest grounds times tick plain least are =
     let fine_draft : Draft = record (finer_draft times tick plain) { links = (with_least (option_map (finer_ticks times) least) (finer_draft times tick plain)).links } in
     let finer = scenario_of fine_draft in
     let made : scenario_of_draft draft ≡ Ok scenario = rw (are.holds) refl in
-    let well = grounds.drafts draft scenario made in
+    let well = grounds.roundable scenario (grounds.drafts draft scenario made) in
     let is = is_finer grounds.keeps times tick plain least are in
     let same = same_ranges grounds.keeps times tick plain least are in
     record {

@@ -4,7 +4,6 @@ use Rattle.std.specs.List.{AllZip, flat_map, enumerate_from}
 use Rattle.std.proofs.lemmas.Bool.{cases_Bool, ltb-false}
 use Rattle.convoy_scenario.specs.declared.sender.Sender.{Sender}
 use Rattle.convoy_scenario.specs.Scenario.{Message, Scenario, GoesTo, may_wait, no_message, message_at}
-use Rattle.convoy_scenario.specs.WellFormed.{IsScenario}
 use Rattle.convoy_packets.specs.declared.packet.Packet.{Packet}
 use Rattle.convoy_packets.specs.declared.packet.Packet.TheVariants.{Wait, Multicast, Propose}
 use Rattle.convoy_packets.specs.Packets.{message_packets, multicast_packets, propose_packets, packets_of, place_of}
@@ -16,15 +15,15 @@ use Rattle.convoy_sim.specs.declared.moment.MomentKind.TheVariants.{Arrival, Com
 use Rattle.convoy_sim.specs.Times.{issue, arrive, settle, propose_arrive}
 use Rattle.convoy_sim.specs.Moments.{is_before, is_kind_before, is_same_kind, rank_in, arrival_rank, rank_then, commit_rank}
 use Rattle.convoy_sim.specs.Delivery.{deliver, latency_at, latency_of}
-use Rattle.convoy_sim.specs.ProtocolLaws.{DeliveryIsLeast, LatencyIsNeverNegative}
-use Rattle.convoy_laws.specs.FinerTicks.{AreSameRanges, IsFiner, IsFinerMessage, finer_range, FinerRunsAreMatched, GreatestInFinerTicks, GreatestIsWhole, WholeTicksAreEnough}
+use Rattle.convoy_sim.specs.ProtocolLaws.{ArrivesBeforeCommit}
+use Rattle.convoy_laws.specs.FinerTicks.{AreSameRanges, IsFiner, IsFinerMessage, IsRoundable, finer_range, FinerRunsAreMatched, GreatestInFinerTicks, GreatestIsWhole, WholeTicksAreEnough}
 use Rattle.convoy_laws.proofs.PacketDelays.{delay_at_place, no_delay, sent_of_in}
 use Rattle.convoy_laws.proofs.Ceiling.{times_rise, times_fall, times_plus}
 use Rattle.convoy_laws.proofs.Scaled.{times_greatest, times_at, times_within, times_before, times_same, floor_rises, floor_falls, floor_at_most, floor_past}
 use Rattle.convoy_laws.proofs.SameParts.{same_message, same_numbers, fixed_too, same_addressed, same_addressed_to, goes_too}
 use Rattle.convoy_laws.proofs.SameRun.{IsMoved, moment_at, moved, same_local, same_final}
 use Rattle.convoy_laws.proofs.Lists.{map_made}
-use Rattle.convoy_laws.proofs.Delivered.{IsSameHold, free_same, delivered_free}
+use Rattle.convoy_laws.proofs.Delivered.{IsSameHold, free_same, delivered_by, delivered_free}
 
 -- the schedule in finer ticks
 abbrev stretched : ℕ → Schedule → Schedule
@@ -190,23 +189,31 @@ module _ (sent : PacketsAreThoseSent) (k : ℕ) (plan fine : Scenario) (is : IsF
     waits = λ n. ap (nat_lt late) (settles n g) ∙ floor_past k is.some (settle plan schedule n g) late;
   }
 
-  module _ (delivery : DeliveryIsLeast) (never_negative : LatencyIsNeverNegative) (well : IsScenario plan) where
+  module _ (arrivals : ArrivesBeforeCommit) (well : IsRoundable plan) where
     delivers : (m g : ℕ) → GoesTo plan m g → k * deliver plan schedule m g ≤ deliver fine long m g
     delivers m g goes =
         let late : ℕ = deliver fine long m g in
         let done = delivered_free fine long m g (goes_too k plan fine is m g goes) in
         let committed : k * settle plan schedule m g ≤ late = subst (λ t. t ≤ late) (settles m g) done.0 in
-        let least = (delivery plan schedule well m g goes).least (late / k) (floor_rises k is.some (settle plan schedule m g) late committed)
+        let least = delivered_by plan schedule m g (late / k) (floor_rises k is.some (settle plan schedule m g) late committed)
         (sym (free_same fine long plan schedule m g late (late / k) (holds_same m g late)) ∙ done.1) in
         let rise = times_rise k (deliver plan schedule m g) (late / k) least in
         let falls = floor_falls k is.some late in
+        omega arith
+
+    issue_first : (m g : ℕ) → GoesTo plan m g → issue plan schedule m ≤ deliver plan schedule m g
+    unfolding arrive
+    issue_first m g goes =
+        let done = delivered_free plan schedule m g goes in
+        let committed = done.0 in
+        let come = arrivals plan schedule m g g goes in
         omega arith
 
     latency_past : (m g : ℕ) → GoesTo plan m g → k * latency_at plan schedule m g ≤ latency_at fine long m g
     unfolding latency_at
     latency_past m g goes =
         let delivered = delivers m g goes in
-        let low = never_negative plan schedule well m g goes in
+        let low = issue_first m g goes in
         let issued = issues m in
         let wait : ℕ = deliver plan schedule m g - issue plan schedule m in
         let whole_wait : deliver plan schedule m g ≡ issue plan schedule m + wait = omega arith in
@@ -237,19 +244,19 @@ module _ (sent : PacketsAreThoseSent) (k : ℕ) (plan fine : Scenario) (is : IsF
     };
   }
 
-pub greatest_in_finer : WholeTicksAreEnough → PacketsAreThoseSent → DeliveryIsLeast → LatencyIsNeverNegative → GreatestInFinerTicks
-greatest_in_finer enough sent delivery never_negative k plan fine latency well real finer_real is same greatest =
+pub greatest_in_finer : WholeTicksAreEnough → PacketsAreThoseSent → ArrivesBeforeCommit → GreatestInFinerTicks
+greatest_in_finer enough sent arrivals k plan fine latency well real finer_real is same greatest =
     let upper = enough k plan fine latency well real is greatest.upper in
     let time : fine.time ≡ plan.time = finer_real ∙ sym real in
     let run = greatest.reached in
     let given = is_assignment sent k plan fine is same time run.0 run.1 in
-    let past = target_past sent k plan fine is same time run.0 delivery never_negative well in
+    let past = target_past sent k plan fine is same time run.0 arrivals well in
     let times : k * latency_of plan run.0 ≡ k * latency = ap (λ n. k * n) run.2 in
     let most = upper (stretched k run.0) given in
     record { reached = (stretched k run.0, given, omega arith); upper = upper }
 
-pub greatest_whole : FinerRunsAreMatched → PacketsAreThoseSent → DeliveryIsLeast → LatencyIsNeverNegative → GreatestIsWhole
-greatest_whole matched sent delivery never_negative k plan fine greatest well real finer_real is same top =
+pub greatest_whole : FinerRunsAreMatched → PacketsAreThoseSent → ArrivesBeforeCommit → GreatestIsWhole
+greatest_whole matched sent arrivals k plan fine greatest well real finer_real is same top =
     let run = top.reached in
     let whole = matched k plan fine run.0 well real is run.1 in
     let latency : ℕ = latency_of plan whole.0 in
@@ -268,6 +275,6 @@ greatest_whole matched sent delivery never_negative k plan fine greatest well re
       stretched_below : (schedule : Schedule) → IsAssignment plan schedule → k * latency_of plan schedule ≤ greatest
       stretched_below schedule given =
           let time : fine.time ≡ plan.time = finer_real ∙ sym real in
-          let past = target_past sent k plan fine is same time schedule delivery never_negative well in
+          let past = target_past sent k plan fine is same time schedule arrivals well in
           let most = top.upper (stretched k schedule) (is_assignment sent k plan fine is same time schedule given) in
           omega arith

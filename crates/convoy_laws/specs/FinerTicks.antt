@@ -1,9 +1,10 @@
 -- One scenario in ticks and in ticks that are a number of times as fine, and why whole ticks are enough in real time.
-use Rattle.std.specs.Prelude.{◌≡◌, ℕ, ◌+◌, ◌*◌, ◌≤◌, length, IsFalse, IsTrue}
+use Rattle.std.specs.Prelude.{◌≡◌, ℕ, ◌+◌, ◌*◌, ◌≤◌, length, All, IsFalse, IsTrue}
 use Rattle.std.specs.List.{AllZip}
 use Rattle.convoy_draft.specs.declared.time.Time.TheVariants.{Real}
-use Rattle.convoy_scenario.specs.Scenario.{Message, Scenario}
-use Rattle.convoy_scenario.specs.WellFormed.{IsScenario}
+use Rattle.convoy_draft.specs.declared.limits.TheConstants.{MOST_GROUPS, MOST_MULTICASTS}
+use Rattle.convoy_scenario.specs.Scenario.{GoesTo, Message, Scenario}
+use Rattle.convoy_scenario.specs.WellFormed.{IsMulticast, IsScenario}
 use Rattle.convoy_packets.specs.declared.packet.Packet.{Packet}
 use Rattle.convoy_packets.specs.Packets.{is_wait}
 use Rattle.convoy_packets.specs.Assignment.{Schedule, IsAssignment, range_of}
@@ -39,25 +40,36 @@ finer_range times range = (times * range.0, times * range.1)
 abbrev pub AreSameRanges : ℕ → Scenario → Scenario → Type 0
 AreSameRanges times scenario finer = (packet : Packet) → IsTrue (is_sent scenario packet) → range_of finer packet ≡ finer_range times (range_of scenario packet)
 
+-- what rounding rests on, of all that makes a scenario well formed; the target may wait, too
+pub record IsRoundable (scenario : Scenario) : Type 0 where
+  pub groups_high : length scenario.groups ≤ MOST_GROUPS
+  pub multicasts_high : length scenario.multicasts ≤ MOST_MULTICASTS
+  pub messages : All (IsMulticast (length scenario.groups)) scenario.multicasts
+  pub addressed : GoesTo scenario scenario.target_message scenario.target_group
+
+-- Well-formed scenarios are roundable.
+abbrev pub ScenariosAreRoundable : Type 0
+ScenariosAreRoundable = (scenario : Scenario) → IsScenario scenario → IsRoundable scenario
+
 -- In real time there is for each run in finer ticks one in whole ticks that is at least as late.
 abbrev pub FinerRunsAreMatched : Type 0
 FinerRunsAreMatched =
     (times : ℕ) (scenario finer : Scenario) (schedule : Schedule)
-    → IsScenario scenario → scenario.time ≡ Real → IsFiner times scenario finer → IsAssignment finer schedule
+    → IsRoundable scenario → scenario.time ≡ Real → IsFiner times scenario finer → IsAssignment finer schedule
     → (whole : Schedule) × IsAssignment scenario whole × (latency_of finer schedule ≤ times * latency_of scenario whole)
 
 -- In real time whole ticks are enough: no run in finer ticks has a greater latency than the runs in whole ticks allow.
 abbrev pub WholeTicksAreEnough : Type 0
 WholeTicksAreEnough =
     (times : ℕ) (scenario finer : Scenario) (latency : ℕ)
-    → IsScenario scenario → scenario.time ≡ Real → IsFiner times scenario finer → IsUpper scenario latency
+    → IsRoundable scenario → scenario.time ≡ Real → IsFiner times scenario finer → IsUpper scenario latency
     → IsUpper finer (times * latency)
 
 -- In real time the greatest latency is the same however fine the ticks are in which it is told: in finer ticks it is as many times the number.
 abbrev pub GreatestInFinerTicks : Type 0
 GreatestInFinerTicks =
     (times : ℕ) (scenario finer : Scenario) (latency : ℕ)
-    → IsScenario scenario → scenario.time ≡ Real → finer.time ≡ Real → IsFiner times scenario finer → AreSameRanges times scenario finer
+    → IsRoundable scenario → scenario.time ≡ Real → finer.time ≡ Real → IsFiner times scenario finer → AreSameRanges times scenario finer
     → IsGreatest scenario latency
     → IsGreatest finer (times * latency)
 
@@ -65,6 +77,6 @@ GreatestInFinerTicks =
 abbrev pub GreatestIsWhole : Type 0
 GreatestIsWhole =
     (times : ℕ) (scenario finer : Scenario) (greatest : ℕ)
-    → IsScenario scenario → scenario.time ≡ Real → finer.time ≡ Real → IsFiner times scenario finer → AreSameRanges times scenario finer
+    → IsRoundable scenario → scenario.time ≡ Real → finer.time ≡ Real → IsFiner times scenario finer → AreSameRanges times scenario finer
     → IsGreatest finer greatest
     → (latency : ℕ) × (greatest ≡ times * latency) × IsGreatest scenario latency

@@ -12,3 +12,4 @@ pub mod Narrower
 pub mod Monotone
 pub mod FinerTicks
 pub mod FinerTexts
+pub mod IssueWindows

@@ -4,16 +4,22 @@
 
 ghost use Rattle.convoy_laws.specs.FinerTexts.{GreatestOfFinerTexts};
 ghost use Rattle.convoy_laws.specs.FinerTicks.{FinerRunsAreMatched, GreatestInFinerTicks};
-ghost use Rattle.convoy_laws.specs.FinerTicks.{GreatestIsWhole, WholeTicksAreEnough};
+ghost use Rattle.convoy_laws.specs.FinerTicks.{GreatestIsWhole, ScenariosAreRoundable};
+ghost use Rattle.convoy_laws.specs.FinerTicks.{WholeTicksAreEnough};
 
 use convoy_packets::schedule_laws::{
     delays_are_within, packets_are_those_sent, places_lead_back, unsent_takes_no_time,
 };
 use convoy_scenario::scenario_laws::{drafts_give_scenarios, order_keeps_ranges};
 use convoy_sim::protocol_laws::{
-    arrives_before_commit, delivery_is_least, issued_at_its_tick, issued_within_its_wait,
-    latency_is_never_negative,
+    arrives_before_commit, issued_at_its_tick, issued_within_its_wait,
 };
+
+/// The laws hold of each well-formed scenario; what they ask for says nothing of whether the target may
+/// wait.
+pub fn scenarios_are_roundable()
+    ensures { ScenariosAreRoundable }
+{}
 
 /// For each run of a scenario in finer ticks there is one in whole ticks that is at least as late.
 pub fn finer_runs_are_matched()
@@ -26,15 +32,12 @@ pub fn finer_runs_are_matched()
     issued_at_its_tick();
     issued_within_its_wait();
     arrives_before_commit();
-    delivery_is_least();
-    latency_is_never_negative();
 }
 
 /// A latency in ticks that no run of a scenario in real time exceeds, none exceeds in finer ticks either,
 /// whatever part of a tick they are: so a bound that is certified in ticks bounds every finer run. The
 /// ranges in finer ticks may be narrower, and so may be the times at which messages may be issued: so a
-/// scenario in which both are rounded outwards to greater ticks gives a bound, too, where the target, whose
-/// issue is known, is issued at a whole one.
+/// scenario in which both are rounded outwards to greater ticks gives a bound, too.
 pub fn whole_ticks_are_enough()
     ensures { WholeTicksAreEnough }
 {
@@ -48,8 +51,7 @@ pub fn greatest_in_finer_ticks()
 {
     whole_ticks_are_enough();
     packets_are_those_sent();
-    delivery_is_least();
-    latency_is_never_negative();
+    arrives_before_commit();
 }
 
 /// In real time the greatest latency is a whole number of ticks, even if it is looked for in finer ones.
@@ -58,8 +60,7 @@ pub fn greatest_is_whole()
 {
     finer_runs_are_matched();
     packets_are_those_sent();
-    delivery_is_least();
-    latency_is_never_negative();
+    arrives_before_commit();
 }
 
 /// In real time the greatest latency of what a text says does not depend on the tick that the text counts
@@ -72,4 +73,5 @@ pub fn greatest_of_finer_texts()
     greatest_is_whole();
     order_keeps_ranges();
     drafts_give_scenarios();
+    scenarios_are_roundable();
 }

@@ -11,6 +11,4 @@ returns c times scenario finer schedule well real is given =
       at_tick = c.issued_at_its_tick.ensures;
       in_wait = c.issued_within_its_wait.ensures.within;
       arrivals = c.arrives_before_commit.ensures;
-      delivery = c.delivery_is_least.ensures;
-      issue = c.latency_is_never_negative.ensures;
     }) times scenario finer schedule well real is given

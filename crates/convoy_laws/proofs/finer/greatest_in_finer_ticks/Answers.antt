@@ -3,5 +3,5 @@ use Rattle.convoy_laws.proofs.finer.greatest_in_finer_ticks.Goals as goal
 
 pub returns : goal.returns
 returns c times scenario finer latency well real finer_real is same greatest =
-    greatest_in_finer c.whole_ticks_are_enough.ensures c.packets_are_those_sent.ensures c.delivery_is_least.ensures c.latency_is_never_negative.ensures
+    greatest_in_finer c.whole_ticks_are_enough.ensures c.packets_are_those_sent.ensures c.arrives_before_commit.ensures
     times scenario finer latency well real finer_real is same greatest

@@ -3,5 +3,5 @@ use Rattle.convoy_laws.proofs.finer.greatest_is_whole.Goals as goal
 
 pub returns : goal.returns
 returns c times scenario finer greatest well real finer_real is same top =
-    greatest_whole c.finer_runs_are_matched.ensures c.packets_are_those_sent.ensures c.delivery_is_least.ensures c.latency_is_never_negative.ensures
+    greatest_whole c.finer_runs_are_matched.ensures c.packets_are_those_sent.ensures c.arrives_before_commit.ensures
     times scenario finer greatest well real finer_real is same top

@@ -8,4 +8,5 @@ returns c =
       in_whole = c.greatest_is_whole.ensures;
       keeps = c.order_keeps_ranges.ensures;
       drafts = c.drafts_give_scenarios.ensures;
+      roundable = c.scenarios_are_roundable.ensures;
     })

@@ -1,0 +1,171 @@
+-- What a widened scenario has in common with the scenario, and when its messages may be issued.
+use Rattle.std.proofs.Common.{◌≡◌, ◌≢◌, ℕ, zero, suc, ◌+◌, ◌<◌, ◌≤◌, ◌==◌, ◌&&◌, not, false, true, inl, inr, List, [], ◌∷◌, length, get_or, map, refl, sym, ap, ap₂, ◌∙◌, arith}
+use Rattle.std.specs.List.{list_any, enumerate_from}
+use Rattle.std.proofs.lemmas.Bool.{cases_lt, cases_eq, cond-true, cond-false, eq-eqb, ltb-true, ne_eqb}
+use Rattle.std.proofs.lemmas.List.{get_or_past}
+use Rattle.convoy_scenario.specs.declared.sender.Sender.{Sender}
+use Rattle.convoy_scenario.specs.declared.sender.Sender.TheVariants.{Group}
+use Rattle.convoy_scenario.specs.Scenario.{Message, Scenario, no_message, message_at, is_addressed, is_sent_by, may_wait, range_between}
+use Rattle.convoy_packets.specs.declared.packet.Packet.{Packet}
+use Rattle.convoy_packets.specs.declared.packet.Packet.TheVariants.{Wait, Multicast, Propose}
+use Rattle.convoy_packets.specs.Packets.{is_wait}
+use Rattle.convoy_packets.specs.Assignment.{range_of}
+use Rattle.convoy_packets.specs.ScheduleLaws.{is_sent}
+use Rattle.convoy_origin.specs.Later.{AreAlike}
+use Rattle.convoy_origin.specs.Widened.{target_wait, widened_message, widened}
+
+-- ---- one message
+pub at_end : (wait t m : ℕ) (x : Message) → m ≡ t → widened_message wait t m x ≡ record x { at = x.at + wait; longest_wait = 0 }
+at_end wait t m x e = cond-true (m == t) _ _ (eq-eqb m t e)
+
+pub waits_longer : (wait t m : ℕ) (x : Message) → m ≢ t → widened_message wait t m x ≡ record x { longest_wait = x.longest_wait + wait }
+waits_longer wait t m x d = cond-false (m == t) _ _ (ne_eqb m t d)
+
+sender_stays : (wait t m : ℕ) (x : Message) → (widened_message wait t m x).sender ≡ x.sender
+sender_stays wait t m x = elim (cases_eq m t) [
+  | inl e ↦ ap (λ (y : Message). y.sender) (at_end wait t m x e)
+  | inr d ↦ ap (λ (y : Message). y.sender) (waits_longer wait t m x d)
+]
+
+destinations_stay : (wait t m : ℕ) (x : Message) → (widened_message wait t m x).destinations ≡ x.destinations
+destinations_stay wait t m x = elim (cases_eq m t) [
+  | inl e ↦ ap (λ (y : Message). y.destinations) (at_end wait t m x e)
+  | inr d ↦ ap (λ (y : Message). y.destinations) (waits_longer wait t m x d)
+]
+
+-- ---- all messages
+abbrev pub all_widened : ℕ → ℕ → ℕ → List Message → List Message
+all_widened wait t n xs = map (λ p. widened_message wait t p.0 p.1) (enumerate_from n xs)
+
+pub as_many : (wait t n : ℕ) (xs : List Message) → length (all_widened wait t n xs) ≡ length xs
+as_many wait t n [] = refl
+as_many wait t n (x ∷ xs) = ap suc (as_many wait t (n + 1) xs)
+
+widened_at : (wait t n : ℕ) (xs : List Message) (i : ℕ) → i < length xs
+    → get_or (all_widened wait t n xs) i no_message ≡ widened_message wait t (n + i) (get_or xs i no_message)
+widened_at wait t n [] i l = absurd (omega arith)
+widened_at wait t n (x ∷ xs) zero l = let same : n ≡ n + 0 = omega arith in ap (λ k. widened_message wait t k x) same
+widened_at wait t n (x ∷ xs) (suc i) l =
+    let same : n + 1 + i ≡ n + suc i = omega arith in
+    widened_at wait t (n + 1) xs i (omega arith) ∙ ap (λ k. widened_message wait t k (get_or xs i no_message)) same
+
+-- what the widened scenario says, beside the scenario
+pub record IsWidened (plan wide : Scenario) : Type 0 where
+  pub alike : AreAlike plan wide
+  pub senders : (m : ℕ) → (message_at wide m).sender ≡ (message_at plan m).sender
+  pub ranges : (p : Packet) → is_wait p ≡ false → range_of wide p ≡ range_of plan p
+  pub target_at : plan.target_message < length plan.multicasts
+      → (message_at wide plan.target_message).at ≡ (message_at plan plan.target_message).at + target_wait plan
+  pub target_fixed : (message_at wide plan.target_message).longest_wait ≡ 0
+  pub other_at : (m : ℕ) → m ≢ plan.target_message → (message_at wide m).at ≡ (message_at plan m).at
+  pub other_wait : (m : ℕ) → m ≢ plan.target_message → m < length plan.multicasts
+      → (message_at wide m).longest_wait ≡ (message_at plan m).longest_wait + target_wait plan
+  pub past : (m : ℕ) → length plan.multicasts ≤ m → (message_at wide m).longest_wait ≡ 0
+  pub target_message : wide.target_message ≡ plan.target_message
+  pub target_group : wide.target_group ≡ plan.target_group
+
+module _ (plan : Scenario) where
+  abbrev wait : ℕ
+  wait = target_wait plan
+
+  abbrev target : ℕ
+  target = plan.target_message
+
+  pub message_is : (m : ℕ) → m < length plan.multicasts → message_at (widened plan) m ≡ widened_message wait target m (message_at plan m)
+  unfolding widened
+  message_is m l =
+      let same : 0 + m ≡ m = omega arith in
+      widened_at wait target 0 plan.multicasts m l ∙ ap (λ k. widened_message wait target k (message_at plan m)) same
+
+  message_past : (m : ℕ) → length plan.multicasts ≤ m → message_at (widened plan) m ≡ no_message
+  unfolding widened
+  message_past m l =
+      let many = as_many wait target 0 plan.multicasts in
+      get_or_past (all_widened wait target 0 plan.multicasts) m no_message (omega arith)
+
+  same_senders : (m : ℕ) → (message_at (widened plan) m).sender ≡ (message_at plan m).sender
+  same_senders m = elim (cases_lt m (length plan.multicasts)) [
+    | inl l ↦ ap (λ (y : Message). y.sender) (message_is m l) ∙ sender_stays wait target m (message_at plan m)
+    | inr l ↦ ap (λ (y : Message). y.sender) (message_past m l ∙ sym (get_or_past plan.multicasts m no_message l))
+  ]
+
+  pub same_destinations : (m : ℕ) → (message_at (widened plan) m).destinations ≡ (message_at plan m).destinations
+  same_destinations m = elim (cases_lt m (length plan.multicasts)) [
+    | inl l ↦ ap (λ (y : Message). y.destinations) (message_is m l) ∙ destinations_stay wait target m (message_at plan m)
+    | inr l ↦ ap (λ (y : Message). y.destinations) (message_past m l ∙ sym (get_or_past plan.multicasts m no_message l))
+  ]
+
+  pub fixed : (message_at (widened plan) target).longest_wait ≡ 0
+  fixed = elim (cases_lt target (length plan.multicasts)) [
+    | inl l ↦ ap (λ (y : Message). y.longest_wait) (message_is target l ∙ at_end wait target target (message_at plan target) refl)
+    | inr l ↦ ap (λ (y : Message). y.longest_wait) (message_past target l)
+  ]
+
+  at_stays : (m : ℕ) → m ≢ target → (message_at (widened plan) m).at ≡ (message_at plan m).at
+  at_stays m d = elim (cases_lt m (length plan.multicasts)) [
+    | inl l ↦ ap (λ (y : Message). y.at) (message_is m l ∙ waits_longer wait target m (message_at plan m) d)
+    | inr l ↦ ap (λ (y : Message). y.at) (message_past m l ∙ sym (get_or_past plan.multicasts m no_message l))
+  ]
+
+  alike : AreAlike plan (widened plan)
+  unfolding widened
+  alike = record {
+    time = refl;
+    groups = refl;
+    count = as_many wait target 0 plan.multicasts;
+    destinations = same_destinations;
+  }
+
+  between_stays : (sender : Sender) (g : ℕ) → range_between (widened plan) sender g ≡ range_between plan sender g
+  unfolding widened
+  between_stays sender g = refl
+
+  ranges_stay : (p : Packet) → is_wait p ≡ false → range_of (widened plan) p ≡ range_of plan p
+  ranges_stay (Wait m) travels = absurd (let no : true ≡ false = travels in cc)
+  ranges_stay (Multicast m g) travels = ap (λ s. range_between (widened plan) s g) (same_senders m) ∙ between_stays (message_at plan m).sender g
+  ranges_stay (Propose m h g) travels = between_stays (Group h) g
+
+  target_stays : (widened plan).target_message ≡ plan.target_message
+  unfolding widened
+  target_stays = refl
+
+  group_stays : (widened plan).target_group ≡ plan.target_group
+  unfolding widened
+  group_stays = refl
+
+  pub is_widened : IsWidened plan (widened plan)
+  is_widened = record {
+    alike = alike;
+    senders = same_senders;
+    ranges = ranges_stay;
+    target_at = λ l. ap (λ (y : Message). y.at) (message_is target l ∙ at_end wait target target (message_at plan target) refl);
+    target_fixed = fixed;
+    other_at = at_stays;
+    other_wait = λ m d l. ap (λ (y : Message). y.longest_wait) (message_is m l ∙ waits_longer wait target m (message_at plan m) d);
+    past = λ m l. ap (λ (y : Message). y.longest_wait) (message_past m l);
+    target_message = target_stays;
+    target_group = group_stays;
+  }
+
+-- ---- the packets that travel are the same
+-- a message of which no more is known than who sends it
+abbrev sent_by : Sender → Message
+sent_by sender = record { name = []; sender = sender; destinations = []; at = 0; longest_wait = 0 }
+
+module _ (plan wide : Scenario) (is : IsWidened plan wide) where
+  pub same_addressed : (m g : ℕ) → is_addressed (message_at wide m) g ≡ is_addressed (message_at plan m) g
+  same_addressed m g = ap (λ hs. list_any (λ h. h == g) hs) (is.alike.destinations m)
+
+  pub same_sent : (p : Packet) → is_wait p ≡ false → is_sent wide p ≡ is_sent plan p
+  same_sent (Wait m) travels = absurd (let no : true ≡ false = travels in cc)
+  same_sent (Multicast m g) travels =
+      ap₂ (λ a b. a && not b) (same_addressed m g) (ap (λ sender. is_sent_by (sent_by sender) g) (is.senders m))
+  same_sent (Propose m h g) travels = ap₂ (λ a b. a && b && not (h == g)) (same_addressed m h) (same_addressed m g)
+
+  -- a message that waits in the widened scenario is one of its messages, and not the target
+  pub waits_there : (m : ℕ) → may_wait (message_at wide m) ≡ true → (m ≢ plan.target_message) × (m < length plan.multicasts)
+  waits_there m waits =
+      let long = ltb-true 0 (message_at wide m).longest_wait waits in (
+        λ e. let none : (message_at wide m).longest_wait ≡ 0 = ap (λ n. (message_at wide n).longest_wait) e ∙ is.target_fixed in omega arith,
+        elim (cases_lt m (length plan.multicasts)) [ inl l ↦ l | inr l ↦ absurd (let none = is.past m l in omega arith) ],
+      )
