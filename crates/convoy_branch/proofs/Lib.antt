@@ -12,5 +12,5 @@ pub mod SearchOutcomes
 pub mod LeftBounds
 pub mod FrontUppers
 pub mod Withins
-pub mod FirstPasses
+pub mod EndedPasses
 pub mod OpenTurns

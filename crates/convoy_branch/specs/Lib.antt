@@ -19,7 +19,7 @@ pub use Rattle.convoy_certificate.specs.Text
 pub use Rattle.convoy_checker.specs.Trees
 pub use Rattle.convoy_checker.specs.Leaves
 pub use Rattle.convoy_checker.specs.Validity
--- What a search promises: the bounds by which it goes, which regions it closes, what it tells of those that are left, a step over a region, how far a search has come, what it answers, alone, in two passes and both ways, how far it may go, and the laws of fronts.
+-- What a search promises: the bounds by which it goes, which regions it closes, what it tells of those that are left, a step over a region, how far a search has come, what it answers, alone, in several passes and both ways, how far it may go, and the laws of fronts.
 pub mod SearchBounds
 pub mod Options
 pub mod Uppers

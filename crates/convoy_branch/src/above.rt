@@ -27,8 +27,8 @@ const MOST_AIMS: u32 = 24;
 /// How many boxes are taken up at most below the root.
 const MOST_BOXES: u32 = 200;
 
-/// How many at first, where two ways of splitting them take turns.
-const FEW_BOXES: u32 = 50;
+/// How many in real time are then split by orders, too.
+const ORDERED_BOXES: u32 = 50;
 
 /// What seeking from above has come to.
 #[derive(Drop)]
@@ -68,8 +68,7 @@ pub fn root_from_above<G: Gate>(
 
 /// The same below the root, where a bound in ticks is known for which leads close it: boxes are split as in a search
 /// by leads that closes them for a latency just below that. Each box that is open has its wish runs simulated. In real
-/// time trees in which boxes are split at packets alone take turns with such that are split by orders, too, first with few
-/// boxes and then with more: what one way ends in a few boxes the other may not end in thousands.
+/// time some trees follow in which boxes are split by orders, too: these soon end what splits at packets alone do not.
 pub fn split_from_above<G: Gate>(
     alloc: Global,
     instance: &Instance,
@@ -83,34 +82,15 @@ pub fn split_from_above<G: Gate>(
     ensures no_lower { IfOk result (λ found. known.latency ≤ found.best.latency) }
 {
     let found = FromAbove { best: known, bound };
+    let splits = Splits::Packets;
+    let found = trees_from_above(alloc, instance, found, splits, MOST_BOXES, limit, gate)?;
     match instance.time() {
-        Time::Ticks => {
-            let splits = Splits::Packets;
-            trees_from_above(alloc, instance, found, splits, MOST_BOXES, limit, gate)
-        }
+        Time::Ticks => Ok(found),
         Time::Real => {
-            let found = both_from_above(alloc, instance, found, FEW_BOXES, limit, gate)?;
-            both_from_above(alloc, instance, found, MOST_BOXES, limit, gate)
+            let splits = Splits::Orders;
+            trees_from_above(alloc, instance, found, splits, ORDERED_BOXES, limit, gate)
         }
     }
-}
-
-/// The same by trees of at most so many boxes that are split at packets alone, and then by such that are split by orders,
-/// too.
-fn both_from_above<G: Gate>(
-    alloc: Global,
-    instance: &Instance,
-    found: FromAbove,
-    boxes: u32,
-    limit: Limit,
-    gate: &G,
-) -> Result<FromAbove, AllocError>
-    requires of_scenario { found.best.scenario ≡ instance.now }
-    ensures of_scenario { IfOk result (λ after. after.best.scenario ≡ instance.now) }
-    ensures no_lower { IfOk result (λ after. found.best.latency ≤ after.best.latency) }
-{
-    let found = trees_from_above(alloc, instance, found, Splits::Packets, boxes, limit, gate)?;
-    trees_from_above(alloc, instance, found, Splits::Orders, boxes, limit, gate)
 }
 
 /// The same by trees of at most so many boxes that are split so.
@@ -306,7 +286,8 @@ impl<'a> Above<'a> {
 }
 
 /// The halves of a region that leads leave open for a latency in ticks: in real time by an order that they leave
-/// open, or else at a packet. None where it has neither. The error is that memory ran out.
+/// open, or else at a packet; where no region is split by an order, it speaks of the rival being first. None where it
+/// has neither. The error is that memory ran out.
 #[tactic(auto, using(crate::proofs::Aims::both_of))]
 fn halves_of(
     alloc: Global,
@@ -330,7 +311,9 @@ fn halves_of(
             Err((_whole, error)) => Err(error),
         };
     }
-    let Some((packet, at)) = place_to_split(alloc, instance, &branch, latency, left, true)? else {
+    let rival_first = splits == Splits::Packets;
+    let place = place_to_split(alloc, instance, &branch, latency, left, rival_first)?;
+    let Some((packet, at)) = place else {
         return Ok(None);
     };
     match branch.halves(instance, usize::from(packet), at) {

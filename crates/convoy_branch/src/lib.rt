@@ -10,7 +10,7 @@ pub use options::{
     DEFAULT_LIMIT, DEFAULT_SIMULATIONS, MOST_SIMULATIONS, MOST_TICKETS, Options, Settings, Ways,
 };
 pub use outcome::Outcome;
-pub use passes::{AfterFirst, after_first};
+pub use passes::{AfterPass, Pass, after_pass};
 pub use search::{search_alone, search_alone_from};
 pub use splits::Splits;
 pub use step::{Step, Turn, step_branch};

@@ -1,11 +1,11 @@
-//! The two passes of a search by leads in real time: at first regions are split at packets alone.
+//! The passes of a search by leads in real time, which split regions in several ways.
 
 ghost use Rattle.std.specs.Prelude.{ℕ, IfSome};
 ghost use Rattle.convoy_scenario.specs.Scenario.{Scenario};
 ghost use Rattle.convoy_branch.specs.declared.bounds.Bounds.{Bounds};
 ghost use Rattle.convoy_branch.specs.declared.limit.Limit.{Limit};
 ghost use Rattle.convoy_branch.specs.Limits.{IsOutcomeWithin};
-ghost use Rattle.convoy_branch.specs.Passes.{GoesOn, IsFirstPass};
+ghost use Rattle.convoy_branch.specs.Passes.{GoesOn, IsPass};
 
 use super::bounds::Bounds;
 use super::gate::Gate;
@@ -15,47 +15,68 @@ use super::splits::Splits;
 use convoy_scenario::Time;
 use convoy_sim::Record;
 
-/// How many tickets the first pass spends at most.
-const FIRST_TICKETS: u64 = 2_000;
+/// A pass of a search before the last one.
+#[derive(Clone, Copy)]
+pub struct Pass {
+    /// By what it splits regions.
+    splits: Splits,
+    /// How many tickets it spends at most.
+    most: u64,
+}
 
-impl Limit {
-    /// How far a search goes in its first pass, in which regions are split at packets alone: with few of its tickets,
-    /// which the second pass has again. None where it has one pass: in whole ticks, by other bounds than leads, or with
-    /// too few tickets.
-    pub fn first_pass(self, time: Time, bounds: Bounds) -> Option<Limit>
-        ensures { IfSome result (IsFirstPass self) }
+impl Pass {
+    /// Those before the last one, in the order in which they are made.
+    pub const ALL: [Pass; 3] = [
+        Pass {
+            splits: Splits::Packets,
+            most: 200,
+        },
+        Pass {
+            splits: Splits::Orders,
+            most: 400,
+        },
+        Pass {
+            splits: Splits::Packets,
+            most: 2_000,
+        },
+    ];
+
+    /// How far a search goes in this pass: with few of its tickets, which the next pass has again. None where the search
+    /// has no such passes: in whole ticks, by other bounds than leads, or with too few tickets.
+    pub fn within(self, limit: Limit, time: Time, bounds: Bounds) -> Option<Limit>
+        ensures { IfSome result (IsPass limit) }
     {
-        let tickets = (self.tickets / 4).min(FIRST_TICKETS);
+        let tickets = (limit.tickets / 4).min(self.most);
         match (time, bounds) {
             (Time::Real, Bounds::Lead) if 0 < tickets => Some(Limit {
                 tickets,
-                splits: Splits::Packets,
-                ..self
+                splits: self.splits,
+                ..limit
             }),
             _ => None,
         }
     }
 }
 
-/// What comes after the first pass of a search.
+/// What comes after a pass of a search.
 #[derive(Drop)]
-pub enum AfterFirst {
+pub enum AfterPass {
     /// Nothing: this is the outcome.
     Ended(Outcome),
-    /// The second pass, from the best record so far.
+    /// The next pass, from the best record so far.
     Again(Record),
 }
 
-/// What comes after the first pass of a search with that limit which has ended so: the second one where regions are
-/// left and the gate does not stop the search.
-#[tactic(auto, using(crate::proofs::FirstPasses::proved_first, crate::proofs::FirstPasses::stopped_first, crate::proofs::FirstPasses::again))]
-pub fn after_first<G: Gate>(first: Outcome, limit: Limit, gate: &G) -> AfterFirst
-    ensures { (bounds : Bounds) (scenario : Scenario) (workers : ℕ) (few : Limit) → IsFirstPass limit few
+/// What comes after a pass of a search with that limit which has ended so: the next one where regions are left and the
+/// gate does not stop the search.
+#[tactic(auto, using(crate::proofs::EndedPasses::proved_in_pass, crate::proofs::EndedPasses::stopped_in_pass, crate::proofs::EndedPasses::again))]
+pub fn after_pass<G: Gate>(first: Outcome, limit: Limit, gate: &G) -> AfterPass
+    ensures { (bounds : Bounds) (scenario : Scenario) (workers : ℕ) (few : Limit) → IsPass limit few
         → IsOutcomeWithin bounds scenario workers few first → GoesOn bounds scenario workers limit first result }
 {
     match first {
-        Outcome::Proved { .. } => AfterFirst::Ended(first),
-        Outcome::Open { best, .. } if !limit.is_over(gate) => AfterFirst::Again(best),
-        Outcome::Open { .. } => AfterFirst::Ended(first),
+        Outcome::Proved { .. } => AfterPass::Ended(first),
+        Outcome::Open { best, .. } if !limit.is_over(gate) => AfterPass::Again(best),
+        Outcome::Open { .. } => AfterPass::Ended(first),
     }
 }

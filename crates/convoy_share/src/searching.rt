@@ -25,7 +25,7 @@ use convoy_branch::front_laws::{
     fronts_better, fronts_bound, only_leads_have_lead_leaves, plain_fronts_have_no_stamps,
     whole_fronts_are_readable, whole_fronts_are_trees,
 };
-use convoy_branch::{AfterFirst, Bounds, Gate, Limit, Outcome, after_first};
+use convoy_branch::{AfterPass, Bounds, Gate, Limit, Outcome, Pass, after_pass};
 use convoy_certificate::Certificate;
 use convoy_checker::tree_laws::trees_cover;
 use convoy_incumbent::{Board, CloseFault, Hand};
@@ -91,16 +91,18 @@ pub fn search_from<'a, R: Threads + Wait + Sync, G: Gate + Sync>(
         IsWithin limit (λ tickets. IsOutcome bounds instance.now workers tickets outcome)) }
     ensures opened { IfOk result (λ outcome. opening.latency ≤ best_of outcome) }
 {
-    let Some(few) = limit.first_pass(instance.time(), bounds) else {
-        return search_by(rt, alloc, instance, opening, workers, limit, bounds, gate);
-    };
-    let first = search_by(rt, alloc, instance, opening, workers, few, bounds, gate)?;
-    match after_first(first, limit, gate) {
-        AfterFirst::Ended(outcome) => Ok(outcome),
-        AfterFirst::Again(best) => {
-            search_by(rt, alloc, instance, best, workers, limit, bounds, gate)
+    let mut begun = opening;
+    for pass in Pass::ALL {
+        let Some(few) = pass.within(limit, instance.time(), bounds) else {
+            break;
+        };
+        let ended = search_by(rt, alloc, instance, begun, workers, few, bounds, gate)?;
+        match after_pass(ended, limit, gate) {
+            AfterPass::Ended(outcome) => return Ok(outcome),
+            AfterPass::Again(best) => begun = best,
         }
     }
+    search_by(rt, alloc, instance, begun, workers, limit, bounds, gate)
 }
 
 /// The search of [`search_from`] in one pass: regions are split as the limit says.
