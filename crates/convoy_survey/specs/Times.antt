@@ -4,7 +4,7 @@ use Rattle.convoy_draft.specs.Durations.{unit_word}
 use Rattle.convoy_times.specs.declared.measure.Measure.{Measure}
 use Rattle.convoy_times.specs.Measures.{told_ticks}
 use Rattle.convoy_tables.specs.declared.format.Format.{Format}
-use Rattle.convoy_tables.specs.declared.format.Format.TheVariants.{Text, Csv, Json}
+use Rattle.convoy_tables.specs.declared.format.Format.TheVariants.{Text, Csv, Json, Html}
 use Rattle.convoy_tables.specs.Tables.{Cell, nothing, number, numeral, word}
 use Rattle.convoy_survey.specs.declared.times.Times.{Times}
 
@@ -13,11 +13,12 @@ abbrev pub count_cell : Option ℕ → Cell
 count_cell None = nothing
 count_cell (Some n) = number n
 
--- the times of a table in this format: as CSV and as JSON it has columns of times in any case, in text where there is a measure
+-- the times of a table in this format: as CSV and as JSON it has columns of times in any case, in text and in HTML where there is a measure
 abbrev pub times_of : Format → Option Measure → Times
 times_of Text measure = record { are_told = is_some measure; measure = measure }
 times_of Csv measure = record { are_told = true; measure = measure }
 times_of Json measure = record { are_told = true; measure = measure }
+times_of Html measure = record { are_told = is_some measure; measure = measure }
 
 -- cells that a row has where times are told
 abbrev pub where_told : Times → List Cell → List Cell

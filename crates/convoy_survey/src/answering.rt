@@ -67,7 +67,7 @@ pub fn survey_answer<R: Threads + Wait + Sync, W: Watch + Sync>(
 }
 
 /// How a survey with these rows ends, by the deadlines of the messages.
-fn end_of(deadlines: &[Option<u32>], rows: &[Surveyed]) -> Done
+pub fn end_of(deadlines: &[Option<u32>], rows: &[Surveyed]) -> Done
     ensures { result ≡ end_of deadlines.now rows.now }
 {
     Done::by(
@@ -99,7 +99,7 @@ fn has_open(deadlines: &[Option<u32>], rows: &[Surveyed]) -> bool
 }
 
 /// Whether a row is beyond the deadline of its message.
-fn is_row_beyond(deadlines: &[Option<u32>], row: &Surveyed) -> bool
+pub fn is_row_beyond(deadlines: &[Option<u32>], row: &Surveyed) -> bool
     ensures { result ≡ is_row_beyond deadlines.now row.now }
 {
     row.finding.is_beyond(deadline_at(deadlines, row.message))

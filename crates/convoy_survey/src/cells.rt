@@ -209,8 +209,8 @@ fn push_rivals(scenario: &Scenario, cause: Option<Cause>, cells: &mut Row) -> Re
     push_name(scenario, tied_in(cause), cells)
 }
 
-/// Puts a number that may not be known at the end of a row.
-pub(crate) fn push_count(count: Option<u32>, cells: &mut Row) -> Result<(), AllocError>
+/// Puts a number that may not be known at the end of a row. Fails where memory runs out, and else never.
+pub fn push_count(count: Option<u32>, cells: &mut Row) -> Result<(), AllocError>
     ensures { OnOk result (cells.new ≡ cells.old ++ count_cell count ∷ []) }
 {
     match count {

@@ -2,11 +2,13 @@
 //! that it goes to, and their ceilings; and how these keep their deadlines.
 #![tactic(auto)]
 
-pub use answering::survey_answer;
+pub use answering::{end_of, is_row_beyond, survey_answer};
 pub use ceiled::Ceiled;
 pub use ceiling_answer::ceilings_answer;
 pub use ceilings::{ceilings_by, ceilings_of};
-pub use cells::{push_cause, push_finding, push_name, push_nodes, push_ticks, push_times};
+pub use cells::{
+    push_cause, push_count, push_finding, push_name, push_nodes, push_ticks, push_times,
+};
 pub use convoy_tables::Format;
 pub use finding::{Cause, Finding, Surveyed};
 pub use judgements::{
@@ -14,7 +16,10 @@ pub use judgements::{
 };
 pub use rows::{survey, survey_by};
 pub use searching::find;
-pub use table::{push_finding_columns, push_time_columns};
+pub use table::{push_finding_columns, push_time_columns, survey_text};
+pub use time_cells::{
+    push_columns_if_told, push_time, push_time_if_told, push_time_pair, push_unit,
+};
 pub use times::Times;
 
 mod answering;

@@ -13,8 +13,8 @@ use convoy_tables::{Format, Row, Table, table_text};
 use std::alloc::{AllocError, Global};
 
 /// The table of a survey as it is written in a format, judged where a message has a deadline, and with ceilings where
-/// they are asked for.
-pub(crate) fn survey_text(
+/// they are asked for. Fails where memory runs out, and else never.
+pub fn survey_text(
     alloc: Global,
     format: Format,
     with_ceilings: bool,

@@ -12,8 +12,8 @@ use convoy_times::time_laws::times_are_decimals;
 use std::alloc::{AllocError, Global};
 
 /// Puts two numbers of ticks, each of which may not be known, as times at the end of a row, and their unit, where
-/// times are told.
-pub(crate) fn push_time_pair(
+/// times are told. Fails where memory runs out, and else never.
+pub fn push_time_pair(
     alloc: Global,
     times: &Times,
     one: Option<u32>,
@@ -30,8 +30,9 @@ pub(crate) fn push_time_pair(
     push_unit(times.measure, cells)
 }
 
-/// Puts names of columns of times at the end of a row, where times are told.
-pub(crate) fn push_columns_if_told(
+/// Puts names of columns of times at the end of a row, where times are told. Fails where memory runs out, and else
+/// never.
+pub fn push_columns_if_told(
     times: &Times,
     names: &[&str],
     columns: &mut Row,
@@ -46,8 +47,9 @@ pub(crate) fn push_columns_if_told(
     }
 }
 
-/// Puts a number of ticks, which may not be known, as a time at the end of a row, where times are told.
-pub(crate) fn push_time_if_told(
+/// Puts a number of ticks, which may not be known, as a time at the end of a row, where times are told. Fails where
+/// memory runs out, and else never.
+pub fn push_time_if_told(
     alloc: Global,
     times: &Times,
     ticks: Option<u32>,
@@ -64,7 +66,7 @@ pub(crate) fn push_time_if_told(
 
 /// Puts ticks that may not be known in the unit of a measure at the end of a row; nothing where one of both is not
 /// known.
-fn push_time(
+pub fn push_time(
     alloc: Global,
     measure: Option<Measure>,
     ticks: Option<u32>,
@@ -90,7 +92,7 @@ fn push_told(alloc: Global, measure: Measure, ticks: u32, cells: &mut Row) -> Re
 }
 
 /// Puts the unit of a measure at the end of a row, where there is one.
-fn push_unit(measure: Option<Measure>, cells: &mut Row) -> Result<(), AllocError>
+pub fn push_unit(measure: Option<Measure>, cells: &mut Row) -> Result<(), AllocError>
     ensures { OnOk result (cells.new ≡ cells.old ++ unit_cell measure ∷ []) }
 {
     match measure {

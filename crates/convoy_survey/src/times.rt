@@ -15,12 +15,12 @@ pub struct Times {
 
 impl Times {
     /// How a table in this format tells times by a measure: as CSV and as JSON it has columns of times in any case,
-    /// so that the names of its columns do not depend on the scenario, and in text where there is a measure.
+    /// so that the names of its columns do not depend on the scenario, and in text and in HTML where there is a measure.
     pub fn of(format: Format, measure: Option<Measure>) -> Times
         ensures { result ≡ times_of format measure }
     {
         let are_told = match format {
-            Format::Text => measure.is_some(),
+            Format::Text | Format::Html => measure.is_some(),
             Format::Csv | Format::Json => true,
         };
         Times { are_told, measure }

@@ -1,13 +1,13 @@
--- How a table is written, in each of the three formats.
+-- How a table is written, in each of the four formats.
 use Rattle.std.specs.Prelude.{ℕ, ◌+◌, ◌-◌, ◌==◌, max, Bool, false, ◌||◌, if◌then◌else◌, List, [], ◌∷◌, ◌++◌, length, map, codes, replicate, slice_index_or}
-use Rattle.std.specs.List.{enumerate_from, flat_map, fold, range_with_len}
+use Rattle.std.specs.List.{enumerate_from, flat_map, fold, list_any, range_with_len}
 use Rattle.csv.specs.Writing.{default_writer, row_text}
 use Rattle.json.specs.Print.{print}
 use Rattle.json.specs.Token.{Token}
 use Rattle.convoy_tables.specs.declared.cell.Kind.{Kind}
 use Rattle.convoy_tables.specs.declared.cell.Kind.TheVariants.{Word, Number, Nothing}
 use Rattle.convoy_tables.specs.declared.format.Format.{Format}
-use Rattle.convoy_tables.specs.declared.format.Format.TheVariants.{Text, Csv, Json}
+use Rattle.convoy_tables.specs.declared.format.Format.TheVariants.{Text, Csv, Json, Html}
 use Rattle.convoy_tables.specs.Tables.{Cell, Table, cell_at, is_number, shown}
 
 -- what stands between two pieces: nothing before the first
@@ -107,9 +107,61 @@ object_text names i cells = codes "\n  " ++ print (json_object names cells)
 abbrev pub array_text : Table → List ℕ
 array_text table = 91 ∷ (joined (codes ",") (object_text table.columns) table.rows ++ codes "\n]\n")
 
+-- HTML
+-- a byte as it stands in a text of HTML: what has a meaning there (`&`, `<`, `>` and both quotes) by its entity
+abbrev pub html_byte : ℕ → List ℕ
+html_byte c =
+    if c == 38 then codes "&amp;"
+    else if c == 60 then codes "&lt;"
+    else if c == 62 then codes "&gt;"
+    else if c == 34 then codes "&quot;"
+    else if c == 39 then codes "&#39;"
+    else c ∷ []
+
+-- a text as it stands in HTML
+abbrev pub escaped : List ℕ → List ℕ
+escaped text = flat_map html_byte text
+
+-- the start of a cell by what it has, so that a style tells numbers apart
+abbrev pub cell_start : Kind → List ℕ
+cell_start Word = codes "<td>"
+cell_start Number = codes "<td class=\"number\">"
+cell_start Nothing = codes "<td class=\"nothing\">"
+
+-- a cell
+abbrev pub html_cell : Cell → List ℕ
+html_cell cell = cell_start cell.kind ++ (escaped (shown cell) ++ codes "</td>")
+
+-- a row in a line of its own
+abbrev pub html_row : List Cell → List ℕ
+html_row cells = codes "<tr>" ++ (flat_map html_cell cells ++ codes "</tr>\n")
+
+-- some row has a number in the column
+abbrev pub is_of_numbers : ℕ → List (List Cell) → Bool
+is_of_numbers column rows = list_any (λ cells. is_number (cell_at cells column).kind) rows
+
+-- the start of the name of a column, which stands as its numbers do
+abbrev pub name_start : Bool → List ℕ
+name_start of_numbers = if of_numbers then codes "<th class=\"number\">" else codes "<th>"
+
+-- the name of a column of these rows
+abbrev pub html_name : List (List Cell) → ℕ → Cell → List ℕ
+html_name rows column name = name_start (is_of_numbers column rows) ++ (escaped name.text ++ codes "</th>")
+
+-- the names of the columns of these rows
+abbrev pub html_names : List (List Cell) → List Cell → List ℕ
+html_names rows names = joined [] (html_name rows) names
+
+-- the names of the columns and the rows
+abbrev pub html_text : Table → List ℕ
+html_text table =
+    codes "<table>\n<tr>" ++ (html_names table.rows table.columns
+    ++ (codes "</tr>\n" ++ (flat_map html_row table.rows ++ codes "</table>\n")))
+
 -- TABLES
 -- the table as it is written
 abbrev pub table_text : Format → Table → List ℕ
 table_text Text table = lines_text (widths_of table) table
 table_text Csv table = records_text table
 table_text Json table = array_text table
+table_text Html table = html_text table

@@ -72,7 +72,8 @@ pub(crate) fn push_aligned(
     push_filling(width, cell, out)
 }
 
-fn is_number(kind: Kind) -> bool
+/// Whether a cell stands at the right of its column.
+pub(crate) fn is_number(kind: Kind) -> bool
     ensures { result ≡ is_number kind }
 {
     match kind {

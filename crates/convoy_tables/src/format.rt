@@ -7,4 +7,6 @@ pub enum Format {
     Csv,
     /// An array with an object for each row.
     Json,
+    /// A table of a page in HTML, in which what a cell has is a text and nothing else.
+    Html,
 }

@@ -1,8 +1,10 @@
-//! Tables of words and numbers, and how they are written: with aligned columns, as CSV and as JSON.
+//! Tables of words and numbers, and how they are written: with aligned columns, as CSV, as JSON and as
+//! HTML.
 #![tactic(auto)]
 
 pub use cell::{Cell, Kind};
 pub use format::Format;
+pub use html::push_escaped;
 pub use table::{Row, Table};
 pub use writing::table_text;
 
@@ -10,6 +12,7 @@ mod aligning;
 mod between;
 mod cell;
 mod format;
+mod html;
 mod lines;
 mod objects;
 mod records;

@@ -3,6 +3,7 @@ ghost use Rattle.convoy_tables.specs.Formats.{table_text};
 
 use super::aligning::widths_of;
 use super::format::Format;
+use super::html::html_of;
 use super::lines::lines_of;
 use super::objects::array_of;
 use super::records::records_of;
@@ -17,5 +18,6 @@ pub fn table_text(alloc: Global, table: &Table, format: Format) -> Result<Vec<u8
         Format::Text => lines_of(alloc, table, &widths_of(alloc, table)?),
         Format::Csv => records_of(alloc, table),
         Format::Json => array_of(alloc, table),
+        Format::Html => html_of(alloc, table),
     }
 }
