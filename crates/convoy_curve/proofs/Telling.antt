@@ -32,18 +32,19 @@ dots_all curve dots i text past so_far =
     subst (λ (some : List Dot). All (λ dot. Tells (dot_text curve dot) text) some) (take_all i dots past) so_far
 
 -- what the parts tell, the whole tells
-pub curve_tells : (curve : Curve) (start title ground axes marks line text : List ℕ) →
-    text ≡ start ++ (title ++ (ground ++ (axes ++ (marks ++ (line ++ codes "</svg>\n"))))) →
+pub curve_tells : (curve : Curve) (start title ground axes marks line notes text : List ℕ) →
+    text ≡ start ++ (title ++ (ground ++ (axes ++ (marks ++ (line ++ (notes ++ codes "</svg>\n")))))) →
     Tells curve.title.now title → All (λ dot. Tells (dot_text curve dot) marks) curve.dots.now →
     IfSome curve.deadline (λ ticks. Tells (deadline_text curve.measure ticks) line) → IsCurve curve text
-curve_tells curve start title ground axes marks line text whole told dots deadline =
+curve_tells curve start title ground axes marks line notes text whole told dots deadline =
+    let end : List ℕ = notes ++ codes "</svg>\n" in
     let front : List ℕ = start ++ (title ++ (ground ++ axes)) in
-    let with_marks : text ≡ front ++ (marks ++ (line ++ codes "</svg>\n")) = rw whole (simp append_assoc) in
-    let with_line : text ≡ (front ++ marks) ++ (line ++ codes "</svg>\n") = rw whole (simp append_assoc) in
+    let with_marks : text ≡ front ++ (marks ++ (line ++ end)) = rw whole (simp append_assoc) in
+    let with_line : text ≡ (front ++ marks) ++ (line ++ end) = rw whole (simp append_assoc) in
     record {
-      title = tells_within curve.title.now title start (ground ++ (axes ++ (marks ++ (line ++ codes "</svg>\n")))) text told whole;
+      title = tells_within curve.title.now title start (ground ++ (axes ++ (marks ++ (line ++ end)))) text told whole;
       dots = All-weaker (λ dot. Tells (dot_text curve dot) marks) (λ dot. Tells (dot_text curve dot) text)
-          (λ dot before. tells_within (dot_text curve dot) marks front (line ++ codes "</svg>\n") text before with_marks) curve.dots.now dots;
+          (λ dot before. tells_within (dot_text curve dot) marks front (line ++ end) text before with_marks) curve.dots.now dots;
       deadline = if_weaker (λ ticks. Tells (deadline_text curve.measure ticks) line) (λ ticks. Tells (deadline_text curve.measure ticks) text) curve.deadline
-          (λ ticks before. tells_within (deadline_text curve.measure ticks) line (front ++ marks) (codes "</svg>\n") text before with_line) deadline;
+          (λ ticks before. tells_within (deadline_text curve.measure ticks) line (front ++ marks) (end) text before with_line) deadline;
     }

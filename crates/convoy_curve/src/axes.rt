@@ -2,7 +2,7 @@
 
 use super::curve::Curve;
 use super::rounding::{MOST_NUMERALS, step_of};
-use super::sheet::{BOTTOM, LEFT, RIGHT, Sheet, TOP};
+use super::sheet::{BOTTOM, EDGE, LEFT, RIGHT, Sheet, TOP};
 use convoy_scenario::AllocResult;
 use convoy_times::Measure;
 use std::alloc::{AllocError, Global};
@@ -27,7 +27,7 @@ fn write_values(
     sheet: &Sheet,
     text: &mut String,
 ) -> Result<(), AllocError> {
-    let (down, below) = (BOTTOM + 200, BOTTOM + 480);
+    let (down, below) = (BOTTOM + 220, BOTTOM + 520);
     let step = step_of(
         length_of(&curve.measure),
         sheet.last.saturating_sub(sheet.first),
@@ -46,7 +46,7 @@ fn write_values(
     let (key, unit) = (curve.key, unit_of(&curve.measure));
     write!(
         text,
-        "<text x=\"{RIGHT}\" y=\"{below}\" font-size=\"130\" text-anchor=\"end\">{key}, {unit}</text>\n"
+        "<text x=\"{RIGHT}\" y=\"{below}\" font-size=\"150\" text-anchor=\"end\">{key}, {unit}</text>\n"
     )
 }
 
@@ -57,7 +57,7 @@ fn write_latencies(
     sheet: &Sheet,
     text: &mut String,
 ) -> Result<(), AllocError> {
-    let (aside, above) = (LEFT - 100, TOP - 180);
+    let (aside, above) = (LEFT - 180, TOP - 200);
     let step = step_of(
         length_of(&curve.measure),
         sheet.high.saturating_sub(sheet.low),
@@ -69,14 +69,14 @@ fn write_latencies(
             let down = sheet.y_of(latency);
             write!(
                 text,
-                "<path d=\"M{LEFT} {down}H{RIGHT}\" stroke=\"#dddddd\"/><text x=\"{aside}\" y=\"{down}\" dy=\"40\" text-anchor=\"end\">{number}</text>\n"
+                "<path d=\"M{LEFT} {down}H{RIGHT}\" stroke=\"#dddddd\"/><text x=\"{aside}\" y=\"{down}\" dy=\"50\" text-anchor=\"end\">{number}</text>\n"
             )?;
         }
     }
     let unit = unit_of(&curve.measure);
     write!(
         text,
-        "<text x=\"{aside}\" y=\"{above}\" font-size=\"130\">greatest latency, {unit}</text>\n"
+        "<text x=\"{EDGE}\" y=\"{above}\" font-size=\"150\">greatest latency, {unit}</text>\n"
     )
 }
 

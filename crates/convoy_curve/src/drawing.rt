@@ -5,7 +5,8 @@ ghost use Rattle.convoy_curve.specs.Curves.{IsCurve};
 use super::axes::axes;
 use super::curve::Curve;
 use super::marks::{deadline_line, marks};
-use super::sheet::{HEIGHT, LEFT, Sheet, WIDTH};
+use super::notes::notes;
+use super::sheet::{EDGE, HEIGHT, Sheet, WIDTH};
 use convoy_scenario::AllocResult;
 use std::alloc::{AllocError, Global};
 
@@ -32,14 +33,15 @@ fn drawing(alloc: Global, curve: &Curve) -> AllocResult<String>
     let axes = axes(alloc, curve, &sheet)?;
     let marks = marks(alloc, curve, &sheet, curve.dots)?;
     let line = deadline_line(alloc, curve, &sheet)?;
-    format!(in alloc; "{start}{title}{ground}{axes}{marks}{line}</svg>\n")
+    let notes = notes(alloc, curve.dots)?;
+    format!(in alloc; "{start}{title}{ground}{axes}{marks}{line}{notes}</svg>\n")
 }
 
 /// What an image begins with: its size.
 fn start(alloc: Global) -> AllocResult<String> {
     let (width, height) = (WIDTH / 10, HEIGHT / 10);
     format!(in alloc;
-        "<svg xmlns=\"http://www.w3.org/2000/svg\" width=\"{width}\" height=\"{height}\" viewBox=\"0 0 {WIDTH} {HEIGHT}\" font-family=\"sans-serif\" font-size=\"110\">\n"
+        "<svg xmlns=\"http://www.w3.org/2000/svg\" width=\"{width}\" height=\"{height}\" viewBox=\"0 0 {WIDTH} {HEIGHT}\" font-family=\"sans-serif\" font-size=\"140\">\n"
     )
 }
 
@@ -53,6 +55,6 @@ fn title(alloc: Global, words: &str) -> AllocResult<String>
 /// A white ground, and words as its heading.
 fn ground(alloc: Global, words: &str) -> AllocResult<String> {
     format!(in alloc;
-        "<rect width=\"{WIDTH}\" height=\"{HEIGHT}\" fill=\"#ffffff\"/>\n<text x=\"{LEFT}\" y=\"480\" font-size=\"180\" font-weight=\"bold\">{words}</text>\n"
+        "<rect width=\"{WIDTH}\" height=\"{HEIGHT}\" fill=\"#ffffff\"/>\n<text x=\"{EDGE}\" y=\"420\" font-size=\"200\" font-weight=\"bold\">{words}</text>\n"
     )
 }

@@ -9,6 +9,7 @@ mod axes;
 mod curve;
 mod drawing;
 mod marks;
+mod notes;
 mod rounding;
 mod sheet;
 mod told;

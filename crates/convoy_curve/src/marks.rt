@@ -7,7 +7,7 @@ ghost use Rattle.convoy_draw.specs.Layers.{element_text};
 ghost use Rattle.convoy_curve.specs.Curves.{deadline_text, dot_text};
 
 use super::curve::{Curve, Dot};
-use super::sheet::{LEFT, RIGHT, Sheet};
+use super::sheet::{BOTTOM, LEFT, RIGHT, Sheet, TOP};
 use super::told::{deadline_words, dot_words};
 use convoy_scenario::AllocResult;
 use std::alloc::Global;
@@ -16,6 +16,9 @@ use std::alloc::Global;
 const KEPT: &str = "#0072b2";
 
 const MISSED: &str = "#d55e00";
+
+/// How far a bar goes above and below the latency that it tells.
+const THICK: u32 = 18;
 
 /// A bar for each of these values of a curve, with its words: from the least to the most that the latency may be, and along the value or its
 /// window. Nothing joins two of them.
@@ -44,10 +47,13 @@ fn mark(alloc: Global, curve: &Curve, sheet: &Sheet, dot: &Dot) -> AllocResult<S
     element(alloc, &told, &drawn)
 }
 
-/// The bar of a value; nothing where memory ran out.
+/// The bar of a value; a grey line from top to bottom where memory ran out.
 fn bar(alloc: Global, curve: &Curve, sheet: &Sheet, dot: &Dot) -> AllocResult<String> {
     let (Some(least), Some(most)) = (dot.least, dot.most) else {
-        return Ok(String::new(alloc));
+        let across = sheet.x_of(dot.value);
+        return format!(in alloc;
+            r##"<path d="M{across} {TOP}V{BOTTOM}" stroke="#999999" stroke-width="12" stroke-dasharray="30 60"/>"##
+        );
     };
     let color = match curve.deadline {
         Some(deadline) if deadline < least => MISSED,
@@ -55,10 +61,10 @@ fn bar(alloc: Global, curve: &Curve, sheet: &Sheet, dot: &Dot) -> AllocResult<St
     };
     let opacity = if least == most { "1" } else { "0.4" };
     let (left, right) = sheet.bar_of(dot);
-    let top = sheet.y_of(most).saturating_sub(12);
+    let top = sheet.y_of(most).saturating_sub(THICK);
     let (width, height) = (
         right.saturating_sub(left),
-        sheet.y_of(least).saturating_add(12).saturating_sub(top),
+        sheet.y_of(least).saturating_add(THICK).saturating_sub(top),
     );
     format!(in alloc;
         r#"<rect x="{left}" y="{top}" width="{width}" height="{height}" fill="{color}" fill-opacity="{opacity}"/>"#
@@ -83,7 +89,7 @@ fn line_at(alloc: Global, curve: &Curve, sheet: &Sheet, deadline: u32) -> AllocR
     let told = deadline_words(alloc, &curve.measure, deadline)?;
     let down = sheet.y_of(deadline);
     let drawn = format!(in alloc;
-        r##"<path d="M{LEFT} {down}H{RIGHT}" stroke="{MISSED}" stroke-width="16" stroke-dasharray="90 60"/><text x="{RIGHT}" y="{down}" dy="-50" fill="{MISSED}" text-anchor="end">deadline</text>"##
+        r##"<path d="M{LEFT} {down}H{RIGHT}" stroke="{MISSED}" stroke-width="16" stroke-dasharray="90 60"/><text x="{RIGHT}" y="{down}" dy="-60" fill="#b34f00" text-anchor="end">{told}</text>"##
     )?;
     element(alloc, &told, &drawn)
 }

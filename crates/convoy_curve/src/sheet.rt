@@ -6,13 +6,16 @@ pub(crate) const WIDTH: u32 = 12_000;
 
 pub(crate) const HEIGHT: u32 = 7_200;
 
+/// Where the heading and the words of the upward axis begin.
+pub(crate) const EDGE: u32 = 400;
+
 pub(crate) const LEFT: u32 = 1_500;
 
 pub(crate) const RIGHT: u32 = 11_500;
 
 pub(crate) const TOP: u32 = 1_000;
 
-pub(crate) const BOTTOM: u32 = 6_200;
+pub(crate) const BOTTOM: u32 = 5_800;
 
 /// How wide the bar of a single value is at least and at most, to either side.
 const NARROWEST: u32 = 12;

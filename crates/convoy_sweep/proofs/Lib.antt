@@ -1,3 +1,4 @@
+pub mod Drawing
 pub mod Enclosing
 pub mod Giving
 pub mod Making

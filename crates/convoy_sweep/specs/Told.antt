@@ -1,6 +1,5 @@
--- What the command `sweep` answers: a table, or the fault of a command that tells why there is none.
-use Rattle.std.specs.Prelude.{◌≡◌, ℕ, Bool, List, Result, Ok, Err}
-use Rattle.convoy_draft.specs.declared.fault.ScenarioFault.{ScenarioFault}
+-- What the command `sweep` answers: a table or a curve, or the fault of a command that tells why there is none.
+use Rattle.std.specs.Prelude.{◌≡◌, ℕ, Bool, List, Ok, Err}
 use Rattle.convoy_toml.specs.declared.asked.Asked.{Asked}
 use Rattle.convoy_branch.specs.Options.{Settings}
 use Rattle.convoy_tables.specs.declared.format.Format.{Format}
@@ -14,8 +13,10 @@ use Rattle.convoy_sweep.specs.declared.fault.SettingFault.{SettingFault}
 use Rattle.convoy_sweep.specs.declared.fault.SettingFault.TheVariants as settings
 use Rattle.convoy_sweep.specs.declared.fault.SweepFault.{SweepFault}
 use Rattle.convoy_sweep.specs.declared.fault.SweepFault.TheVariants as sweeps
+use Rattle.convoy_sweep.specs.declared.kinds.Setting.{Setting}
 use Rattle.convoy_sweep.specs.declared.kinds.Sweep.{Sweep}
 use Rattle.convoy_sweep.specs.Answers.{IsSweepTold}
+use Rattle.convoy_sweep.specs.Curves.{IsCurveTold, of_one}
 use Rattle.convoy_sweep.specs.Points.{prepared_of}
 
 -- why a setting gives its key no values, as a command tells it
@@ -50,3 +51,8 @@ pub record HasNoSweep (sweep : Sweep) (envelope : Bool) (asked : Asked) (text : 
 abbrev pub SweepTold : Format → Sweep → Bool → Asked → Settings → Rule
 SweepTold format sweep envelope asked settings text (Ok (end, out)) = IsSweepTold format sweep envelope asked settings text end out
 SweepTold format sweep envelope asked settings text (Err fault) = HasNoSweep sweep envelope asked text fault
+
+-- what `sweep` may answer for a text where a curve is asked for
+abbrev pub CurveTold : Setting → Bool → Asked → Settings → Rule
+CurveTold setting envelope asked settings text (Ok (end, out)) = IsCurveTold setting envelope asked settings text end out
+CurveTold setting envelope asked settings text (Err fault) = HasNoSweep (of_one setting) envelope asked text fault

@@ -60,7 +60,7 @@ pub fn sweep_answer<R: Threads + Wait + Sync, W: Watch + Sync>(
 }
 
 /// How it ends with these rows, by the deadline of the target.
-fn end_of(deadline: Option<u32>, rows: &[Swept]) -> Done
+pub(crate) fn end_of(deadline: Option<u32>, rows: &[Swept]) -> Done
     ensures { result ≡ end_of deadline rows.now }
 {
     Done::by(

@@ -1,12 +1,11 @@
 //! The cells of the table of a sweep.
 
 ghost use Rattle.std.specs.Prelude.{◌≡◌, ◌++◌, IfOk, OnOk};
-ghost use Rattle.convoy_sweep.specs.Cells.{given_cells, last_cells, row_cells, second_cells};
+ghost use Rattle.convoy_sweep.specs.Cells.{given_cells, last_cells, row_cells, second_cells, value_cells};
 
 use super::kinds::{Given, Swept};
-use super::time_cells::push_value;
 use convoy_scenario::Scenario;
-use convoy_survey::{Times, push_finding, push_verdict_cells};
+use convoy_survey::{Times, push_finding, push_time_if_told, push_verdict_cells};
 use convoy_tables::Row;
 use std::alloc::{AllocError, Global};
 
@@ -73,4 +72,12 @@ fn push_last(
         Some(ticks) => push_value(alloc, times, ticks, cells),
         None => Ok(()),
     }
+}
+
+/// Puts a number of ticks at the end of a row, and the same as a time where times are told.
+fn push_value(alloc: Global, times: &Times, ticks: u32, cells: &mut Row) -> Result<(), AllocError>
+    ensures { OnOk result (cells.new ≡ cells.old ++ value_cells times.now ticks) }
+{
+    cells.push_number(u64::from(ticks))?;
+    push_time_if_told(alloc, times, Some(ticks), cells)
 }

@@ -82,7 +82,7 @@ fn push_value_columns(
 }
 
 /// The words for a key, as in a setting.
-fn key_name(alloc: Global, key: &SweepKey) -> Result<String, AllocError>
+pub(crate) fn key_name(alloc: Global, key: &SweepKey) -> Result<String, AllocError>
     ensures { IfOk result (λ name. string_bytes name ≡ key_name key.now) }
 {
     match key {

@@ -1,12 +1,13 @@
-//! A sweep as commands tell it.
+//! A sweep, and its curve, as commands tell them.
 
 ghost use Rattle.std.specs.Prelude.{◌≡◌, ◌<◌, length};
 ghost use Rattle.convoy_commands.specs.Replies.{SaysUnlessMemory, reply_of};
-ghost use Rattle.convoy_sweep.specs.Told.{SweepTold, cause_of_setting, told_of_sweep};
+ghost use Rattle.convoy_sweep.specs.Told.{CurveTold, SweepTold, cause_of_setting, told_of_sweep};
 
 use super::answering::sweep_answer;
+use super::curve_answering::curve_answer;
 use super::fault::{SettingFault, SweepFault};
-use super::kinds::Sweep;
+use super::kinds::{Setting, Sweep};
 use convoy_branch::Options;
 use convoy_commands::{Answer, Fault, SweepCause, Watch};
 use convoy_tables::Format;
@@ -34,6 +35,26 @@ pub fn sweep_told<R: Threads + Wait + Sync, W: Watch + Sync>(
     match sweep_answer(
         rt, alloc, format, sweep, envelope, asked, options, text, watches,
     ) {
+        Ok(answer) => Ok(answer),
+        Err(fault) => Err(told_of_sweep(fault)),
+    }
+}
+
+/// What [`curve_answer`] answers, with its faults as commands tell them: as those of [`sweep_told`].
+pub fn curve_told<R: Threads + Wait + Sync, W: Watch + Sync>(
+    rt: &R,
+    alloc: Global,
+    setting: &Setting,
+    envelope: bool,
+    asked: &Asked,
+    options: &Options,
+    text: &[u8],
+    watches: &[W],
+) -> Result<Answer, Fault>
+    requires { 0 < length watches.now }
+    ensures { SaysUnlessMemory (CurveTold setting.now envelope asked.now options.now) text.now (reply_of result) }
+{
+    match curve_answer(rt, alloc, setting, envelope, asked, options, text, watches) {
         Ok(answer) => Ok(answer),
         Err(fault) => Err(told_of_sweep(fault)),
     }
