@@ -1,5 +1,5 @@
 pub mod Loops
-pub mod OneMore
+pub mod Each
 pub mod Verdicts
 pub mod Telling
 pub mod Wider

@@ -1,10 +1,11 @@
 -- The rows of a budget: for each target that has a deadline, each way on which packets travel.
-use Rattle.std.specs.Prelude.{◌≡◌, ℕ, Bool, true, false, if◌then◌else◌, List, [], ◌∷◌, map, Option, Some, None}
+use Rattle.std.specs.Prelude.{◌≡◌, ◌⊎◌, ℕ, Bool, true, false, if◌then◌else◌, List, [], ◌∷◌, map, Option, Some, None, Ok, Err, Result}
 use Rattle.std.specs.List.{All, flat_map}
 use Rattle.convoy_scenario.specs.Scenario.{Scenario, may_wait, message_at, message_numbers}
 use Rattle.convoy_scenario.specs.Targets.{with_target}
 use Rattle.convoy_branch.specs.Options.{Settings}
 use Rattle.convoy_commands.specs.declared.fault.Fault.{Fault}
+use Rattle.convoy_commands.specs.declared.fault.Fault.TheVariants.{Memory}
 use Rattle.convoy_commands.specs.Verdicts.{deadline_at}
 use Rattle.convoy_survey.specs.Surveys.{IsTarget}
 use Rattle.convoy_budget.specs.declared.kinds.Budget.{Budget}
@@ -76,3 +77,18 @@ IsBroken scenario fault = (widening : Widening) × MakesNone scenario widening f
 -- it is so with some target
 abbrev pub HasBroken : Scenario → Fault → Type 0
 HasBroken scenario fault = (m : ℕ) × (g : ℕ) × IsBroken (with_target scenario m g) fault
+
+-- ONE ROW
+-- the target may be one of the scenario
+abbrev pub MayBeKey : Scenario → Target × Way → Type 0
+MayBeKey scenario key = MayBeTarget scenario key.0
+
+-- The row is that of the target and the way, and tells their budget.
+pub record TellsKey (settings : Settings) (of_ceiling : Bool) (scenario : Scenario) (key : Target × Way) (row : Budget) : Type 0 where
+  pub of_key : key_of row ≡ key
+  pub told : IsBudget settings of_ceiling scenario row
+
+-- what may come of a target and a way: their row; or the fault of a range that makes no scenario; or that memory ran out
+abbrev pub MayTell : Settings → Bool → Scenario → Target × Way → Result Budget Fault → Type 0
+MayTell settings of_ceiling scenario key (Ok row) = TellsKey settings of_ceiling scenario key row
+MayTell settings of_ceiling scenario key (Err fault) = HasBroken scenario fault ⊎ (fault ≡ Memory)

@@ -4,7 +4,7 @@ use Rattle.convoy_scenario.specs.Naming.{sender_word}
 use Rattle.convoy_scenario.specs.Scenario.{Scenario, group_name_at, message_at}
 use Rattle.convoy_tables.specs.Tables.{Cell, Table, nothing, number, word}
 use Rattle.convoy_survey.specs.declared.times.Times.{Times}
-use Rattle.convoy_survey.specs.Times.{time_cell, unit_cell, where_told}
+use Rattle.convoy_survey.specs.Times.{count_cell, time_cell, unit_cell, where_told}
 use Rattle.convoy_budget.specs.declared.kinds.Budget.{Budget}
 use Rattle.convoy_budget.specs.declared.kinds.Room.{Room}
 use Rattle.convoy_budget.specs.declared.kinds.Room.TheVariants.{Any, Until, AtLeast, Never, Unknown, OutOfMemory}
@@ -86,16 +86,11 @@ left_over row = from (most_until row) where
   from (Some until) = if nat_le row.most until then Some (until - row.most) else None
 
 -- CELLS
--- a number that there may not be
-abbrev pub number_cell : Option ℕ → Cell
-number_cell None = nothing
-number_cell (Some n) = number n
-
 -- the end of a range that is known to keep the deadline, or whether any does, or none
 abbrev pub limit_cell : Room → Option ℕ → Cell
 limit_cell Any limit = word (codes "any")
-limit_cell (Until breadth) limit = number_cell limit
-limit_cell (AtLeast breadth) limit = number_cell limit
+limit_cell (Until breadth) limit = count_cell limit
+limit_cell (AtLeast breadth) limit = count_cell limit
 limit_cell Never limit = word (codes "none")
 limit_cell Unknown limit = nothing
 limit_cell OutOfMemory limit = nothing
@@ -110,7 +105,7 @@ name_cells scenario row =
 -- the range, and its limits, in ticks
 abbrev pub tick_cells : Budget → List Cell
 tick_cells row =
-    number row.least ∷ number row.most ∷ limit_cell row.later (most_until row) ∷ number_cell (left_over row)
+    number row.least ∷ number row.most ∷ limit_cell row.later (most_until row) ∷ count_cell (left_over row)
     ∷ limit_cell row.earlier (least_from row) ∷ []
 
 -- the most, its limit and what is left as times, and their unit

@@ -1,4 +1,4 @@
-ghost use Rattle.std.specs.Prelude.{◌≡◌};
+ghost use Rattle.std.specs.Prelude.{◌≡◌, ◌<◌, length};
 ghost use Rattle.convoy_commands.specs.Replies.{SaysUnlessMemory, reply_of};
 ghost use Rattle.convoy_budget.specs.Answers.{BudgetSays, end_of};
 
@@ -22,8 +22,9 @@ use std::thread::Threads;
 /// they are: a table with a row for each way on which packets travel, and for the target that is asked, or of all for
 /// each message at each group for which it has a deadline ([`targets_of`]). Rows are those of [`budgets`]: the
 /// deadline is that of the greatest latency, or of the ceiling where that is asked for. Numbers are in ticks, and where
-/// times are told ([`Times::of`]) in the unit that the options ask for or else the text writes, too. Each search is watched,
-/// by [`NoGate`](convoy_branch::NoGate) where nobody watches.
+/// times are told ([`Times::of`]) in the unit that the options ask for or else the text writes, too. As many rows are made
+/// at a time as there are watches, and each search is watched by one of them: by [`NoGate`](convoy_branch::NoGate) where
+/// nobody watches.
 ///
 /// A row for which memory runs out has that fault in place of numbers. Faults of the whole are those of
 /// [`read_toml_asked`], `Fault::Scenario` where no target that is asked has a deadline, which names its key, or where a
@@ -37,8 +38,9 @@ pub fn budget_answer<R: Threads + Wait + Sync, W: Watch + Sync>(
     asked: &Asked,
     options: &Options,
     text: &[u8],
-    watch: &W,
+    watches: &[W],
 ) -> Result<Answer, Fault>
+    requires { 0 < length watches.now }
     ensures { SaysUnlessMemory (BudgetSays format of_all of_ceiling asked.now options.now) text.now (reply_of result) }
 {
     let input = read_toml_asked(alloc, text, asked)?;
@@ -47,7 +49,7 @@ pub fn budget_answer<R: Threads + Wait + Sync, W: Watch + Sync>(
     if targets.is_empty() {
         return Err(Fault::Scenario(ScenarioFault::Shape(Key::Within)));
     }
-    let rows = budgets(rt, alloc, &instance, &targets, of_ceiling, options, watch)?;
+    let rows = budgets(rt, alloc, &instance, &targets, of_ceiling, options, watches)?;
     let scenario = instance.into_scenario();
     let times = Times::of(format, Measure::of(&scenario, options.unit(), input.unit));
     let text = text_of(alloc, format, &times, &scenario, &rows)?;

@@ -2,13 +2,12 @@
 
 ghost use Rattle.std.specs.Prelude.{◌≡◌, ◌∷◌, [], ◌++◌, IfOk, OnOk};
 ghost use Rattle.convoy_survey.specs.Times.{where_told};
-ghost use Rattle.convoy_budget.specs.Cells.{limit_cell, name_cells, number_cell, row_cells, tick_cells, time_cells};
+ghost use Rattle.convoy_budget.specs.Cells.{limit_cell, name_cells, row_cells, tick_cells, time_cells};
 
 use super::kinds::{Budget, Room};
-use super::time_cells::{push_time, push_unit};
 use convoy_scenario::Scenario;
 use convoy_scenario::naming::{group_name, message_name, sender_word};
-use convoy_survey::Times;
+use convoy_survey::{Times, push_count, push_time, push_unit};
 use convoy_tables::Row;
 use std::alloc::{AllocError, Global};
 
@@ -86,15 +85,5 @@ fn push_limit(room: Room, limit: Option<u32>, cells: &mut Row) -> Result<(), All
         Room::Never => cells.push_word("none"),
         Room::Until { .. } | Room::AtLeast { .. } => push_count(limit, cells),
         Room::Unknown | Room::OutOfMemory => cells.push_nothing(),
-    }
-}
-
-/// Puts a number that there may not be at the end of a row.
-fn push_count(number: Option<u32>, cells: &mut Row) -> Result<(), AllocError>
-    ensures { OnOk result (cells.new ≡ cells.old ++ number_cell number ∷ []) }
-{
-    match number {
-        Some(number) => cells.push_number(u64::from(number)),
-        None => cells.push_nothing(),
     }
 }

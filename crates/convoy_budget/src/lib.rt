@@ -23,5 +23,4 @@ mod rows;
 mod searching;
 mod table;
 mod targets;
-mod time_cells;
 mod ways;

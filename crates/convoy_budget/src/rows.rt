@@ -1,6 +1,6 @@
-ghost use Rattle.std.specs.Prelude.{◌≡◌, ◌⊎◌, ◌∷◌, [], ◌++◌, map, IfOk, IfErr, OnOk};
-ghost use Rattle.std.specs.List.{All};
-ghost use Rattle.convoy_budget.specs.Budgets.{AreBudgets, HasBroken, IsBroken, IsBudget, IsBudgetOf, MayBeTarget, key_of, keys_of};
+ghost use Rattle.std.specs.Prelude.{◌≡◌, ◌⊎◌, ◌<◌, ◌++◌, length, IfOk, IfErr, OnOk};
+ghost use Rattle.std.specs.List.{All, AllZip, flat_map};
+ghost use Rattle.convoy_budget.specs.Budgets.{AreBudgets, HasBroken, IsBroken, IsBudgetOf, MayBeKey, MayBeTarget, MayTell, key_of, keys_of};
 
 use super::drafting::range_of_way;
 use super::judging::room;
@@ -9,6 +9,7 @@ use super::ways::ways_of;
 use convoy_branch::Options;
 use convoy_commands::{Fault, Watch};
 use convoy_packets::Instance;
+use convoy_rows::{all_values, make_each};
 use convoy_scenario::Scenario;
 use std::alloc::{AllocError, Global};
 use std::sync::Wait;
@@ -16,7 +17,8 @@ use std::thread::Threads;
 
 /// The budgets of all ways on which packets travel ([`ways_of`]), for these targets of an instance's scenario, one target
 /// after the other: the range of the way as it is, and the [`room`] that it has at either side before the greatest latency
-/// of the target, or its ceiling where that is asked for, misses the deadline. Each search is watched.
+/// of the target, or its ceiling where that is asked for, misses the deadline. As many rows are made at a time as there
+/// are watches, and each search is watched by one of them.
 ///
 /// A row for which memory runs out tells that, and the others are told all the same. `Fault::Memory` where there is no
 /// memory for the rows, and `Fault::Scenario` with its cause where a range makes no scenario.
@@ -27,55 +29,85 @@ pub fn budgets<R: Threads + Wait + Sync, W: Watch + Sync>(
     targets: &[Target],
     of_ceiling: bool,
     options: &Options,
-    watch: &W,
+    watches: &[W],
 ) -> Result<Vec<Budget>, Fault>
-    requires { All (MayBeTarget instance.now) targets.now }
+    requires watched { 0 < length watches.now }
+    requires lawful { All (MayBeTarget instance.now) targets.now }
     ensures told { IfOk result
         (λ rows. AreBudgets options.now of_ceiling instance.now targets.now rows.items) }
     ensures err { IfErr result (λ fault. HasBroken instance.now fault ⊎ (fault ≡ Fault.Memory)) }
 {
     let ways = ways_of(alloc, instance)?;
+    let keys = all_keys(alloc, &ways, targets)?;
     let scenario = instance.scenario();
-    let mut rows = Vec::new(alloc);
-    for target in targets {
-        push_budgets(
-            rt, alloc, scenario, &ways, *target, of_ceiling, options, watch, &mut rows,
-        )?;
-    }
-    Ok(rows)
+    let rows = budget_each(rt, alloc, scenario, &keys, of_ceiling, options, watches)?;
+    all_values(alloc, rows)?
 }
 
-/// Appends the budgets of these ways for one target.
-fn push_budgets<R: Threads + Wait + Sync, W: Watch + Sync>(
-    rt: &R,
+/// Each of these targets with each of these ways, one target after the other.
+fn all_keys(
     alloc: Global,
-    scenario: &Scenario,
     ways: &[Way],
-    target: Target,
-    of_ceiling: bool,
-    options: &Options,
-    watch: &W,
-    rows: &mut Vec<Budget>,
-) -> Result<(), Fault>
-    requires target { MayBeTarget scenario.now target }
-    requires told { All (IsBudget options.now of_ceiling scenario.now) rows.old.items }
-    ensures keys { OnOk result (map key_of rows.new.items ≡ map key_of rows.old.items ++ keys_of ways.now target) }
-    ensures told { OnOk result (All (IsBudget options.now of_ceiling scenario.now) rows.new.items) }
-    ensures err { IfErr result (λ fault. HasBroken scenario.now fault ⊎ (fault ≡ Fault.Memory)) }
+    targets: &[Target],
+) -> Result<Vec<(Target, Way)>, AllocError>
+    ensures { IfOk result (λ keys. keys.items ≡ flat_map (keys_of ways.now) targets.now) }
 {
-    let asked = scenario.with_target(target.message, target.group)?;
+    let mut keys = Vec::new(alloc);
+    for target in targets {
+        push_keys(ways, *target, &mut keys)?;
+    }
+    Ok(keys)
+}
+
+/// Appends a target with each of these ways.
+fn push_keys(ways: &[Way], target: Target, keys: &mut Vec<(Target, Way)>) -> Result<(), AllocError>
+    ensures { OnOk result (keys.new.items ≡ keys.old.items ++ keys_of ways.now target) }
+{
     for way in ways {
-        let row = budget(rt, alloc, &asked, target, *way, of_ceiling, options, watch)?;
-        push_row(row, rows)?;
+        keys.push((target, *way))?;
     }
     Ok(())
 }
 
-/// Appends one more row.
-fn push_row(row: Budget, rows: &mut Vec<Budget>) -> Result<(), AllocError>
-    ensures { OnOk result (rows.new.items ≡ rows.old.items ++ row ∷ []) }
+/// The budgets of these ways for their targets, in their order, each by itself.
+fn budget_each<R: Threads + Wait + Sync, W: Watch + Sync>(
+    rt: &R,
+    alloc: Global,
+    scenario: &Scenario,
+    keys: &[(Target, Way)],
+    of_ceiling: bool,
+    options: &Options,
+    watches: &[W],
+) -> Result<Vec<Result<Budget, Fault>>, AllocError>
+    requires watched { 0 < length watches.now }
+    requires lawful { All (MayBeKey scenario.now) keys.now }
+    ensures { IfOk result
+        (λ rows. AllZip (MayTell options.now of_ceiling scenario.now) keys.now rows.items) }
 {
-    Ok(rows.push(row)?)
+    let row = |key: &(Target, Way), watch: &W| -> Result<Budget, Fault>
+        requires { MayBeKey scenario.now key.now }
+        ensures { MayTell options.entry.now of_ceiling scenario.entry.now key.now result }
+    { budget_at(rt, alloc, scenario, *key, of_ceiling, options, watch) };
+    let rows = make_each(rt, alloc, watches, keys, &row)?;
+    Ok(rows)
+}
+
+/// The budget of a way for a target of the scenario.
+fn budget_at<R: Threads + Wait + Sync, W: Watch + Sync>(
+    rt: &R,
+    alloc: Global,
+    scenario: &Scenario,
+    key: (Target, Way),
+    of_ceiling: bool,
+    options: &Options,
+    watch: &W,
+) -> Result<Budget, Fault>
+    requires { MayBeKey scenario.now key }
+    ensures { MayTell options.now of_ceiling scenario.now key result }
+{
+    let (target, way) = key;
+    let asked = scenario.with_target(target.message, target.group)?;
+    budget(rt, alloc, &asked, target, way, of_ceiling, options, watch)
 }
 
 /// The budget of a way for a target, of which the latency is asked in the scenario.

@@ -1,6 +1,7 @@
 -- What is tried of a scenario: a change, and a search of the scenario that it makes.
 use Rattle.std.specs.Prelude.{◌≡◌, ◌≢◌, ◌⊎◌, ℕ, Ok, Err, List, Option, None, option_map, Result}
 use Rattle.std.specs.List.{Contains}
+use denote.Ref.{Bor}
 use Rattle.convoy_draft.specs.declared.fault.ScenarioFault.{ScenarioFault}
 use Rattle.convoy_draft.specs.declared.fault.ScenarioFault.TheVariants.{Memory}
 use Rattle.convoy_scenario.specs.Scenario.{Scenario, message_at}
@@ -51,6 +52,11 @@ abbrev pub MayAnswer : Settings → Scenario → Change → Result Searched Scen
 MayAnswer settings scenario change (Ok searched) = IsSearched settings scenario change searched
 MayAnswer settings scenario change (Err fault) = (changed scenario change ≡ Err fault) ⊎ (fault ≡ Memory)
 
+-- It may be answered for the change, with some watch.
+pub record MayAnswerBy {W : Type 0} (may_answer : Change → Bor W → Result Searched ScenarioFault → Type 0) (change : Change) (answer : Result Searched ScenarioFault) : Type 0 where
+  pub watch : Bor W
+  pub answered : may_answer change watch answer
+
 -- the row tells what was answered where its change was tried by a search with these settings
 abbrev pub IsTried : Settings → Scenario → Tried → Type 0
 IsTried settings scenario row = IsTriedBy (MayAnswer settings scenario) row
@@ -67,6 +73,16 @@ pub record HasRefusedBy (may_answer : Change → Result Searched ScenarioFault �
   pub change : Change
   pub listed : Contains changes change
   pub refused : IsRefusedBy may_answer change fault
+
+-- The row is that of the change, and tells what was answered where it was tried.
+pub record TellsChange (may_answer : Change → Result Searched ScenarioFault → Type 0) (change : Change) (row : Tried) : Type 0 where
+  pub of_change : row.change ≡ change
+  pub tried : IsTriedBy may_answer row
+
+-- what may come of a change, where such answers may be given: its row; or the fault that was answered; or that there was no memory for the row
+abbrev pub MayTry : (Change → Result Searched ScenarioFault → Type 0) → Change → Result Tried Fault → Type 0
+MayTry may_answer change (Ok row) = TellsChange may_answer change row
+MayTry may_answer change (Err fault) = IsRefusedBy may_answer change fault ⊎ (fault ≡ faults.Memory)
 
 -- The change makes no scenario, for the cause that the fault tells.
 pub record MakesNone (scenario : Scenario) (change : Change) (fault : Fault) : Type 0 where

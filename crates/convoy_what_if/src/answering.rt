@@ -1,4 +1,4 @@
-ghost use Rattle.std.specs.Prelude.{◌≡◌};
+ghost use Rattle.std.specs.Prelude.{◌≡◌, ◌<◌, length};
 ghost use Rattle.std.specs.List.{list_any};
 ghost use Rattle.convoy_commands.specs.Replies.{SaysUnlessMemory, reply_of};
 ghost use Rattle.convoy_survey.specs.Findings.{is_fault};
@@ -27,8 +27,8 @@ use std::thread::Threads;
 /// numbers are those that [`latency_answer`](convoy_commands::latency_answer) tells of the scenario that is changed
 /// so, in ticks, and where times are told ([`Times::of`]) in the unit that the options ask for or else the text writes,
 /// too. Where the target has a deadline, columns tell how each row keeps it. Unless all are to be shown, one line below
-/// the scenario as it is stands for those with which the greatest latency is the same. Each search is watched, by
-/// [`NoGate`](convoy_branch::NoGate) where nobody watches.
+/// the scenario as it is stands for those with which the greatest latency is the same. As many changes are tried at a time
+/// as there are watches, each search watched by one: by [`NoGate`](convoy_branch::NoGate) where nobody watches.
 ///
 /// It ends as `Done::Beyond` where a row is beyond the deadline; else as `Done::Faulty` where memory ran out for a row;
 /// else as `Done::Open` where it is not known whether a row keeps the deadline, or where there is none and the search of
@@ -44,14 +44,15 @@ pub fn what_if_answer<R: Threads + Wait + Sync, W: Watch + Sync>(
     asked: &Asked,
     options: &Options,
     text: &[u8],
-    watch: &W,
+    watches: &[W],
 ) -> Result<Answer, Fault>
+    requires { 0 < length watches.now }
     ensures { SaysUnlessMemory (WhatIfSays format shows_all asked.now options.now) text.now (reply_of result) }
 {
     let input = read_toml_asked(alloc, text, asked)?;
     let deadline = deadline_at(&input.deadlines, input.scenario.target_message());
     let instance = Instance::of(alloc, input.scenario)?;
-    let rows = what_if(rt, alloc, &instance, options, watch)?;
+    let rows = what_if(rt, alloc, &instance, options, watches)?;
     let scenario = instance.into_scenario();
     let times = Times::of(format, Measure::of(&scenario, options.unit(), input.unit));
     let text = text_of(alloc, format, &times, deadline, shows_all, &scenario, &rows)?;

@@ -1,9 +1,10 @@
 //! One change, tried.
 
-ghost use Rattle.std.specs.Prelude.{◌≡◌, ◌⊎◌, IfOk, IfErr};
+ghost use Rattle.std.specs.Prelude.{◌≡◌, IfOk};
 ghost use Rattle.convoy_scenario.specs.Memory.{IsUnlessMemory};
 ghost use Rattle.convoy_what_if.specs.Changes.{changed};
-ghost use Rattle.convoy_what_if.specs.Tries.{IsRefusedBy, IsTriedBy, MayAnswer, TellsFound, TellsMemory, name_in};
+ghost use Rattle.convoy_what_if.specs.Tries.{MayAnswer, MayAnswerBy, MayTry, TellsFound, TellsMemory, name_in};
+ghost use denote.Ref.{Bor};
 
 use super::drafting;
 use super::kinds::Change;
@@ -50,17 +51,16 @@ fn changed_instance(
 
 /// The row of a change that is tried by `search`: what that answers, and that memory ran out just where it answers
 /// so. Fails with the fault that it answers else, and with `Fault::Memory` where there is no memory for the row.
-pub(crate) fn try_change<F: Fn(Change) -> Result<Searched, ScenarioFault>>(
+pub(crate) fn try_change<W, F: Fn(Change, &W) -> Result<Searched, ScenarioFault>>(
     alloc: Global,
     change: Change,
+    watch: &W,
     search: &F,
 ) -> Result<Tried, Fault>
-    requires { F.pre search.now change }
-    ensures change { IfOk result (λ row. row.change ≡ change) }
-    ensures tried { IfOk result (IsTriedBy (F.post search.now)) }
-    ensures err { IfErr result (λ fault. IsRefusedBy (F.post search.now) change fault ⊎ (fault ≡ Fault.Memory)) }
+    requires { (watch : Bor W) → F.pre search.now change watch }
+    ensures { MayTry (MayAnswerBy (F.post search.now)) change result }
 {
-    match search(change) {
+    match search(change, watch) {
         Ok(searched) => Ok(row_of(alloc, change, &searched)?),
         Err(ScenarioFault::Memory) => Ok(row_without(change)),
         Err(cause) => Err(Fault::Scenario(cause)),
