@@ -1,0 +1,5 @@
+pub mod Measures
+pub mod Relisting
+pub mod Asking
+pub mod Better
+pub mod Steps

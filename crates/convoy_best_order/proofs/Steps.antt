@@ -1,0 +1,154 @@
+-- One group listed after the other.
+use Rattle.std.proofs.Common.{All, ◌≡◌, ℕ, ◌+◌, ◌<◌, Bool, true, false, not, cond, List, [], ◌∷◌, ◌++◌, length, map, filter, take, get_or, Option, Some, None, IfSome, IsTrue, inl, sym, refl, ap, subst, ◌∙◌, append_assoc, arith}
+use Rattle.std.specs.List.{Contains, remove, slice_get}
+use Rattle.std.specs.List.Sorted.{IsPermutation}
+use Rattle.std.proofs.lemmas.Bool.{eq-eqb}
+use Rattle.std.proofs.lemmas.List.{get_or_default, length-map, map-append, take_more}
+use Rattle.std.proofs.lemmas.List.Elements.{All-contains_itself, All-head, All-push, All-tail, Contains-get_or}
+use Rattle.std.proofs.lemmas.List.Sorted.{All-permutation, IsPermutation-append_right, IsPermutation-filter_both, IsPermutation-remove, IsPermutation-trans}
+use Rattle.std.proofs.lemmas.Option.{get_or_from_slice_get}
+use Rattle.convoy_scenario.specs.Scenario.{Scenario}
+use Rattle.convoy_scenario.specs.WellFormed.{IsScenario}
+use Rattle.convoy_sim.proofs.Membership.{IsIn, in-filter, in-range, in_of_contains, in_of_filter, list_any_in}
+use Rattle.convoy_branch.specs.Options.{Settings}
+use Rattle.convoy_best_order.specs.declared.best.Reason.{Reason}
+use Rattle.convoy_best_order.specs.declared.best.Row.{Row}
+use Rattle.convoy_best_order.specs.declared.costs.Dearest.{Dearest}
+use Rattle.convoy_best_order.specs.declared.excess.Excess.{Excess}
+use Rattle.convoy_best_order.specs.declared.spread.Spread.{Spread}
+use Rattle.convoy_best_order.specs.declared.target.Target.{Target}
+use Rattle.convoy_best_order.specs.Best.{AreReasons, AreRows, IsReason, IsRow, group_of, groups_of, target_of}
+use Rattle.convoy_best_order.specs.Choices.{IsDearest, dearer, groups_with, groups_without, with_next}
+use Rattle.convoy_best_order.specs.Excesses.{greater, is_less}
+use Rattle.convoy_best_order.specs.Orders.{IsOrder, group_numbers}
+use Rattle.convoy_best_order.specs.Spreads.{IsSpreadIn, least_excess, most_excess}
+use Rattle.convoy_best_order.specs.Targets.{MayBeTarget, has_target, is_at}
+use Rattle.convoy_best_order.proofs.Better.{group_known}
+
+-- those without a target and those with one are all groups
+pub parted : (targets : List Target) (scenario : Scenario) → IsOrder scenario (groups_without targets scenario ++ groups_with targets scenario)
+parted targets scenario =
+    IsPermutation-filter_both (λ g. not (has_target targets g)) (has_target targets) (λ g. twice (has_target targets g)) (group_numbers scenario) where
+      twice : (b : Bool) → b ≡ not (not b)
+      twice true = refl
+      twice false = refl
+
+-- one of the rest, taken out and put first, is the rest in another order
+pub front : (left : List ℕ) (place : ℕ) → place < length left → IsPermutation left (get_or left place 0 ∷ remove left place)
+front left place within = IsPermutation-remove left place (get_or left place 0) within (get_or_default left place 0 (get_or left place 0) within)
+
+-- it is listed next
+pub next_listed : (scenario : Scenario) (ahead left : List ℕ) (place : ℕ) → place < length left → IsOrder scenario (ahead ++ left) → IsOrder scenario (with_next ahead left place)
+next_listed scenario ahead left place within is =
+    IsPermutation-trans (group_numbers scenario) (ahead ++ left) (with_next ahead left place) is
+    (IsPermutation-append_right ahead left (get_or left place 0 ∷ remove left place) (front left place within))
+
+-- so are those that are ahead then, and those that are left
+pub still_order : (scenario : Scenario) (ahead left : List ℕ) (place : ℕ) → place < length left → IsOrder scenario (ahead ++ left)
+    → IsOrder scenario ((ahead ++ get_or left place 0 ∷ []) ++ remove left place)
+still_order scenario ahead left place within is =
+    subst (λ (gs : List ℕ). IsOrder scenario gs) (sym (append_assoc ahead (get_or left place 0 ∷ []) (remove left place)))
+    (next_listed scenario ahead left place within is)
+
+-- ---- the groups that are left
+pub all_have : (targets : List Target) (scenario : Scenario) → All (λ g. IsTrue (has_target targets g)) (groups_with targets scenario)
+all_have targets scenario k d l =
+    let left : List ℕ = groups_with targets scenario in
+    (in_of_filter (has_target targets) (get_or left k d) (group_numbers scenario) (in_of_contains (get_or left k d) left (Contains-get_or left k d l))).1
+
+pub still_all : (P : ℕ → Type 0) (left : List ℕ) (place : ℕ) → place < length left → All P left → All P (remove left place)
+still_all P left place within all =
+    All-tail P (get_or left place 0) (remove left place) (All-permutation P left (get_or left place 0 ∷ remove left place) (front left place within) all)
+
+nonempty : {X : Type 0} (x : X) (xs : List X) → IsIn x xs → 0 < length xs
+nonempty x [] i = absurd i
+nonempty x (y ∷ ys) i = omega arith
+
+pub some_group : (targets : List Target) (scenario : Scenario) → IsScenario scenario → 0 < length targets → All (MayBeTarget scenario) targets
+    → 0 < length (groups_with targets scenario)
+some_group [] scenario well some all = absurd (omega (arith, some))
+some_group (target ∷ targets) scenario well some all =
+    let may = All-head (MayBeTarget scenario) target targets all in
+    let g : ℕ = target.group in
+    let known = group_known scenario well target.message g may.addressed in
+    nonempty g (groups_with (target ∷ targets) scenario)
+    (in-filter (has_target (target ∷ targets)) g (group_numbers scenario) (in-range g 0 (length scenario.groups) (omega arith) (omega (arith, known)))
+    (list_any_in (is_at g) target (target ∷ targets) (inl refl) (eq-eqb g g refl)))
+
+-- ---- reasons
+pub is_reason : (settings : Settings) (scenario : Scenario) (targets : List Target) (ahead left : List ℕ) (place : ℕ) (reason : Reason) → place < length left
+    → IsOrder scenario (ahead ++ left) → reason.order.items ≡ with_next ahead left place → group_of reason ≡ get_or left place 0
+    → Contains targets reason.target → IsSpreadIn settings scenario reason.order.items reason.target reason.spread → IsReason settings scenario targets left reason
+is_reason settings scenario targets ahead left place reason within is order at of_target found = record {
+  of_target = of_target;
+  ahead = ahead;
+  behind = remove left place;
+  split = order ∙ ap (λ g. ahead ++ g ∷ remove left place) (sym at);
+  among = still_all (Contains left) left place within (All-contains_itself left);
+  is = subst (IsOrder scenario) (sym order) (next_listed scenario ahead left place within is);
+  found = found;
+}
+
+pub groups_more : (left : List ℕ) (place : ℕ) (reasons : List Reason) (reason : Reason) → place < length left → groups_of reasons ≡ take place left
+    → slice_get left place ≡ Some (group_of reason) → groups_of (reasons ++ reason ∷ []) ≡ take (place + 1) left
+groups_more left place reasons reason within so_far at =
+    map-append group_of reasons (reason ∷ [])
+    ∙ ap (λ gs. gs ++ group_of reason ∷ []) so_far
+    ∙ ap (λ g. take place left ++ g ∷ []) (sym (get_or_from_slice_get left place (group_of reason) 0 at))
+    ∙ sym (take_more left place 0 within)
+
+pub are_reasons : (settings : Settings) (scenario : Scenario) (targets : List Target) (left : List ℕ) (reasons : List Reason) → 0 < length reasons
+    → groups_of reasons ≡ left → All (IsReason settings scenario targets left) reasons → AreReasons settings scenario targets reasons
+are_reasons settings scenario targets left reasons some is all = record {
+  some = some;
+  all = subst (λ gs. All (IsReason settings scenario targets gs) reasons) (sym is) all;
+}
+
+pub as_many : (left : List ℕ) (reasons : List Reason) → groups_of reasons ≡ left → length reasons ≡ length left
+as_many left reasons is = sym (length-map reasons group_of) ∙ ap length is
+
+-- ---- rows
+pub rows_more : (settings : Settings) (scenario : Scenario) (targets : List Target) (order : List ℕ) (i : ℕ) (d : Target) (rows : List Row) (row : Row) → i < length targets
+    → AreRows settings scenario (take i targets) order rows → row.target ≡ get_or targets i d → IsRow settings scenario order row
+    → AreRows settings scenario (take (i + 1) targets) order (rows ++ row ∷ [])
+rows_more settings scenario targets order i d rows row within so_far at is = record {
+  of_targets = map-append target_of rows (row ∷ [])
+      ∙ ap (λ ts. ts ++ row.target ∷ []) so_far.of_targets
+      ∙ ap (λ t. take i targets ++ t ∷ []) at
+      ∙ sym (take_more targets i d within);
+  all = All-push (IsRow settings scenario order) rows row so_far.all is;
+}
+
+-- ---- the dearest target
+dearer_has : (P : Target → Spread → Type 0) (dearest : Option Dearest) (target : Target) (spread : Spread) → IfSome dearest (λ d. P d.target d.spread) → P target spread
+    → P (dearer dearest target spread).target (dearer dearest target spread).spread
+dearer_has P None target spread so_far new = new
+dearer_has P (Some dearest) target spread so_far new = by_test (is_less (least_excess dearest.target dearest.spread) (least_excess target spread)) where
+  most : Excess
+  most = greater dearest.most (most_excess target spread)
+
+  one : Dearest
+  one = record { target = target; spread = spread; most = most }
+
+  other : Dearest
+  other = record { target = dearest.target; spread = dearest.spread; most = most }
+
+  by_test : (b : Bool) → P (cond {A = Dearest} b one other).target (cond {A = Dearest} b one other).spread
+  by_test true = new
+  by_test false = so_far
+
+pub dearer_is : (settings : Settings) (scenario : Scenario) (targets : List Target) (order : List ℕ) (g : ℕ) (dearest : Option Dearest) (target : Target) (spread : Spread)
+    → IfSome dearest (IsDearest settings scenario targets order g) → Contains targets target → target.group ≡ g → IsSpreadIn settings scenario order target spread
+    → IsDearest settings scenario targets order g (dearer dearest target spread)
+dearer_is settings scenario targets order g dearest target spread so_far among at found =
+    let all = dearer_has (λ t s. Contains targets t × (t.group ≡ g) × IsSpreadIn settings scenario order t s) dearest target spread
+    (known dearest so_far) (among, at, found) in
+    record { of_target = all.0; at = all.1; found = all.2 } where
+      known : (dearest : Option Dearest) → IfSome dearest (IsDearest settings scenario targets order g) →
+          IfSome dearest (λ d. Contains targets d.target × (d.target.group ≡ g) × IsSpreadIn settings scenario order d.target d.spread)
+      known None is = tt
+      known (Some d) is = (is.of_target, is.at, is.found)
+
+-- one target more, at a group or not
+abbrev pub no_target : Target
+no_target = record { message = 0; group = 0; deadline = None }

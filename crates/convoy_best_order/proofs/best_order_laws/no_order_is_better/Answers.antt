@@ -1,0 +1,7 @@
+use Rattle.convoy_best_order.proofs.Better.{no_better}
+use Rattle.convoy_best_order.proofs.best_order_laws.no_order_is_better.Goals as goal
+
+pub returns : goal.returns
+returns c =
+    no_better c.scenarios_have_drafts.ensures c.drafts_give_scenarios.ensures c.relisted_drafts_give_scenarios.ensures
+    c.relisted_drafts_are_renumbered.ensures c.no_order_is_below.ensures

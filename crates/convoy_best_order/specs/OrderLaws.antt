@@ -1,0 +1,46 @@
+-- What is proved of the best order. Each is the one clause of the function of its name in the crate's module `best_order_laws`.
+use Rattle.std.specs.Prelude.{◌≡◌, ℕ, List, Ok, Contains}
+use Rattle.convoy_scenario.specs.Scenario.{Scenario}
+use Rattle.convoy_scenario.specs.WellFormed.{IsScenario}
+use Rattle.convoy_sim.specs.Greatest.{IsReached, IsUpper}
+use Rattle.convoy_branch.specs.Options.{Settings}
+use Rattle.convoy_best_order.specs.declared.best.Best.{Best}
+use Rattle.convoy_best_order.specs.declared.excess.Excess.{Excess}
+use Rattle.convoy_best_order.specs.declared.target.Target.{Target}
+use Rattle.convoy_best_order.specs.Best.{IsBest}
+use Rattle.convoy_best_order.specs.Excesses.{IsAtMost}
+use Rattle.convoy_best_order.specs.Orders.{IsOrder, listed}
+use Rattle.convoy_best_order.specs.Targets.{MayBeTarget, asked_of, limit_of}
+
+-- With the groups in that order some schedule of some of these targets exceeds its limit by so much, or by more.
+pub record IsExceededIn (scenario : Scenario) (targets : List Target) (order : List ℕ) (least : Excess) : Type 0 where
+  pub target : Target
+  pub of_target : Contains targets target
+  pub instance : Scenario
+  pub made : listed (asked_of scenario target) order ≡ Ok instance
+  pub latency : ℕ
+  pub reached : IsReached instance latency
+  pub exceeds : IsAtMost least (record { latency = latency; limit = limit_of target })
+
+-- With the groups in that order no schedule of this target exceeds its limit by more than that.
+pub record IsKeptIn (scenario : Scenario) (order : List ℕ) (most : Excess) (target : Target) : Type 0 where
+  pub instance : Scenario
+  pub made : listed (asked_of scenario target) order ≡ Ok instance
+  pub latency : ℕ
+  pub upper : IsUpper instance latency
+  pub keeps : IsAtMost (record { latency = latency; limit = limit_of target }) most
+
+-- No order of the groups has a lesser greatest excess than the least that is told.
+abbrev pub NoOrderIsBetter : Type 0
+NoOrderIsBetter =
+    (settings : Settings) (scenario : Scenario) (targets : List Target) (best : Best) (order : List ℕ) → IsScenario scenario
+    → ((target : Target) → Contains targets target → MayBeTarget scenario target)
+    → IsBest settings scenario targets best → IsOrder scenario order
+    → IsExceededIn scenario targets order best.least
+
+-- The order that is told has at most the most.
+abbrev pub BestOrderKeeps : Type 0
+BestOrderKeeps =
+    (settings : Settings) (scenario : Scenario) (targets : List Target) (best : Best) (target : Target)
+    → IsBest settings scenario targets best → Contains targets target
+    → IsKeptIn scenario best.order.items best.most target

@@ -1,0 +1,31 @@
+-- How late a target is with the groups in some order, as `latency` finds it.
+use Rattle.std.specs.Prelude.{◌≡◌, ℕ, List, Some, Ok}
+use Rattle.convoy_scenario.specs.Scenario.{Scenario}
+use Rattle.convoy_branch.specs.Options.{Settings}
+use Rattle.convoy_survey.specs.declared.finding.Finding.{Finding}
+use Rattle.convoy_survey.specs.Findings.{IsFinding, least_of, most_of}
+use Rattle.convoy_best_order.specs.declared.excess.Excess.{Excess}
+use Rattle.convoy_best_order.specs.declared.spread.Spread.{Spread}
+use Rattle.convoy_best_order.specs.declared.target.Target.{Target}
+use Rattle.convoy_best_order.specs.Orders.{listed}
+use Rattle.convoy_best_order.specs.Targets.{asked_of, limit_of}
+
+-- A search with these settings found that the greatest latency of the scenario is from the least to the most.
+pub record IsSpread (settings : Settings) (scenario : Scenario) (spread : Spread) : Type 0 where
+  pub finding : Finding
+  pub found : IsFinding settings scenario finding
+  pub least : least_of finding ≡ Some spread.least
+  pub most : most_of finding ≡ Some spread.most
+
+-- It found so of the target where the scenario's groups are listed in that order.
+pub record IsSpreadIn (settings : Settings) (scenario : Scenario) (order : List ℕ) (target : Target) (spread : Spread) : Type 0 where
+  pub instance : Scenario
+  pub made : listed (asked_of scenario target) order ≡ Ok instance
+  pub found : IsSpread settings instance spread
+
+-- by how much the latency of the target exceeds its limit at least, and at most
+abbrev pub least_excess : Target → Spread → Excess
+least_excess target spread = record { latency = spread.least; limit = limit_of target }
+
+abbrev pub most_excess : Target → Spread → Excess
+most_excess target spread = record { latency = spread.most; limit = limit_of target }

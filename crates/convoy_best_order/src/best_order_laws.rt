@@ -1,0 +1,27 @@
+//! The laws of the best order. Each is the one clause of a function that does nothing; a caller that needs the law calls
+//! the function.
+
+ghost use Rattle.convoy_best_order.specs.OrderLaws.{BestOrderKeeps, NoOrderIsBetter};
+
+use convoy_orders::order_laws::no_order_is_below;
+use convoy_orders::relisted_laws::{
+    relisted_drafts_are_renumbered, relisted_drafts_give_scenarios,
+};
+use convoy_scenario::scenario_laws::{drafts_give_scenarios, scenarios_have_drafts};
+
+/// No order of the groups has a lesser greatest excess than the least that is told: in each some schedule of some target
+/// exceeds its limit by so much, or by more.
+pub fn no_order_is_better()
+    ensures { NoOrderIsBetter }
+{
+    scenarios_have_drafts();
+    drafts_give_scenarios();
+    relisted_drafts_give_scenarios();
+    relisted_drafts_are_renumbered();
+    no_order_is_below();
+}
+
+/// In the order that is told no schedule of any target exceeds its limit by more than the most that is told.
+pub fn best_order_keeps()
+    ensures { BestOrderKeeps }
+{}

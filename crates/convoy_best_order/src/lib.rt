@@ -1,0 +1,36 @@
+//! The best order of a scenario's groups, by the rule of Lawler: of the groups that are left, that one is listed next of
+//! which the greatest excess is the least where all others that are left stand behind it. What is told is the order, how
+//! late each target is before and after, and why no order is better.
+#![tactic(auto)]
+
+pub use answering::order_answer;
+pub use best::{Best, Reason, Row};
+pub use choosing::best_order;
+pub use convoy_tables::Format;
+pub use excess::Excess;
+pub use listing::listed;
+pub use spread::Spread;
+pub use target::Target;
+pub use targets::targets_of;
+pub use wanted::Wanted;
+
+mod answering;
+mod best;
+pub mod best_order_laws;
+mod cells;
+mod choosing;
+mod costs;
+mod excess;
+mod layout;
+mod listing;
+mod measuring;
+mod naming;
+mod reasons;
+mod rows;
+mod searching;
+mod spread;
+mod table;
+mod target;
+mod targets;
+mod time_cells;
+mod wanted;
