@@ -91,8 +91,11 @@ fn text_of(task: &Task) -> &'static str {
         | Task::Latency { .. }
         | Task::Survey { .. }
         | Task::WhatIf { .. }
+        | Task::Report { .. }
         | Task::Budget { .. }
-        | Task::Sweep { .. } => "a scenario",
+        | Task::Order { .. }
+        | Task::Sweep { .. }
+        | Task::Curve { .. } => "a scenario",
         Task::Check { .. } | Task::Explain { .. } | Task::Draw { .. } => "a certificate",
         Task::Tell(_) => "a scenario or a certificate",
         Task::BatchTable { .. } => "scenarios",
@@ -250,8 +253,11 @@ fn asked_of_task(task: &Task) -> Option<&Asked> {
         | Task::Latency { asked, .. }
         | Task::Survey { asked, .. }
         | Task::WhatIf { asked, .. }
+        | Task::Report { asked, .. }
         | Task::Budget { asked, .. }
+        | Task::Order { asked, .. }
         | Task::Sweep { asked, .. }
+        | Task::Curve { asked, .. }
         | Task::BatchTable { asked, .. } => Some(asked),
         Task::Tell(_) | Task::Check { .. } | Task::Explain { .. } | Task::Draw { .. } => None,
     }
@@ -374,8 +380,11 @@ fn options_of(verdict: &Verdict) -> Option<&Options> {
         | Task::Latency { options, .. }
         | Task::Survey { options, .. }
         | Task::WhatIf { options, .. }
+        | Task::Report { options, .. }
         | Task::Budget { options, .. }
-        | Task::Sweep { options, .. } => Some(options),
+        | Task::Order { options, .. }
+        | Task::Sweep { options, .. }
+        | Task::Curve { options, .. } => Some(options),
         _ => None,
     }
 }

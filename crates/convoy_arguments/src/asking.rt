@@ -59,7 +59,7 @@ fn target_of(alloc: Global, name: &str, given: &ArgMatches<'_>) -> Result<Target
 fn asks_for_several(name: &str, given: &ArgMatches<'_>) -> bool {
     match name {
         "survey" => !given.get_flag("without"),
-        "budget" => given.get_flag("all"),
+        "budget" | "order" => given.get_flag("all"),
         "ceiling" => given.get_flag("all") || given.get_str("group").is_some(),
         _ => false,
     }
@@ -131,6 +131,21 @@ pub(crate) fn sweep_of(alloc: Global, given: &ArgMatches<'_>) -> Result<Sweep, U
             second: Some(setting_in(alloc, second)?),
         }),
         Some([_, _, third, ..]) => Err(rejected(alloc, SET, third)),
+        _ => Err(rejected(alloc, SET, "")),
+    }
+}
+
+/// What can be written for `--set` where a curve is asked for.
+const CURVE_SET: (&str, &str) = (
+    "--set <KEY=FROM..TO/STEP>",
+    "a curve is of one key: write '--set' once, or for pairs of values another format than 'svg'",
+);
+
+/// The key of a curve with its values: of one `--set`.
+pub(crate) fn curve_of(alloc: Global, given: &ArgMatches<'_>) -> Result<Setting, Unasked> {
+    match given.get_strs("set") {
+        Some([one]) => setting_in(alloc, one),
+        Some([_, second, ..]) => Err(rejected(alloc, CURVE_SET, second)),
         _ => Err(rejected(alloc, SET, "")),
     }
 }

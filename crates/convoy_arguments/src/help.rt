@@ -331,6 +331,21 @@ how it is kept: 'within', 'beyond' or 'undecided'; and BY by how many ticks.
 The exit status is 5 where a row is beyond its deadline, else 1 where one is a fault,
 else 3 where one is open, or where it has a deadline, undecided.";
 
+pub(crate) const ABOUT_REPORT: &str = "Writes all about a scenario as a page for a browser";
+
+pub(crate) const LONG_ABOUT_REPORT: &str = "\
+Reads a scenario, and writes a page in HTML that stands alone: whether each deadline is
+kept; the table of `survey --ceiling`; the worst runs of the target and of each row
+that is beyond its deadline, but no more than nine, as `explain` and `draw` tell them;
+what to change first, as `survey --without` tells it; the system; and how to check the
+page.
+  convoy report scenario.toml > report.html
+Its numbers are those of these commands, with the same options.
+
+The exit status is that of `survey`: 5 where a row is beyond its deadline, else 1 where
+one is a fault, else 3 where one is open, or where it has a deadline, undecided. The
+page is written in any case.";
+
 pub(crate) const ABOUT_BUDGET: &str =
     "Tells how slow each link may get before a deadline is missed";
 
@@ -353,6 +368,34 @@ with the numbers the deadline is kept all the same.
 The exit status is 5 where the deadline is missed already, else 1 where memory ran out
 for a row, else 3 where one is open.";
 
+pub(crate) const ABOUT_ORDER: &str = "Tells in which order the groups are best listed";
+
+pub(crate) const LONG_ABOUT_ORDER: &str = "\
+Reads a scenario, and tells in which order its groups are best listed: so that the
+greatest latency of the messages that have deadlines, less these, is the least, or
+where none has one that of the target. The group that is listed last settles ties last,
+as if by the greatest tie-breaking number:
+  convoy order scenario.toml
+  order b a
+  message  group  deadline  before_least  before_most  least  most
+  t        a      -                   12           12      6     6
+  *        *      -                    -            -      6     6
+BEFORE_LEAST and BEFORE_MOST are between what the greatest latency lies with the groups
+as they are listed, LEAST and MOST with those in the best order. The last row is that
+of all targets: no order has a greatest latency below its LEAST, and the best one has
+at most its MOST. Where there are deadlines it tells in place of both how they are kept.
+
+The exit status is 5 where a deadline is missed in the best order, else 3 where it is
+not known whether one is kept, or where there is none whether the order is the best.";
+
+pub(crate) const ABOUT_ALL_TARGETS: &str = "\
+Finds the best order for each message at each group that it goes to, with a deadline or
+not; the text need not have a target";
+
+pub(crate) const ABOUT_WHY: &str = "\
+Tells below the table why no order is better: a row for each of some groups, with an
+order in which those of them that stand behind it do no more harm than in any other";
+
 pub(crate) const ABOUT_SWEEP: &str = "Tells the latency for each value of a time or a range";
 
 pub(crate) const LONG_ABOUT_SWEEP: &str = "\
@@ -367,7 +410,9 @@ A key is `delay`, MESSAGE.at, MESSAGE.until, FROM-TO.least or FROM-TO.most, wher
 is a group or `client`, and a link from there is in the scenario. The values go from
 FROM in steps up to at most TO, each in ticks or as '10 ms', as the scenario's own
 times. With a second `--set` there is a row for each pair of values, at most 10000.
-Of what lies between two values nothing is told.
+Of what lies between two values nothing is told. With `--format svg` a curve over the
+values of one key is drawn in place of the table:
+  convoy sweep --set t.at=0..10/1 --format svg scenario.toml > curve.svg
 
 The exit status is 5 where a row is beyond the target's deadline, else 1 where memory
 ran out for one, else 3 where one is open.";
@@ -405,6 +450,11 @@ pub(crate) const ABOUT_FORMAT: &str = "\
 How the table is written: `text`, with aligned columns, as without this option;
 `csv`, with a line of names first and commas between cells; or `json`, an array
 with an object for each row";
+
+pub(crate) const ABOUT_SWEEP_FORMAT: &str = "\
+How the table is written: `text`, with aligned columns, as without this option;
+`csv`, with a line of names first and commas between cells; or `json`, an array
+with an object for each row. Or `svg`, an image: the curve over the values of one key";
 
 pub(crate) const ABOUT_BATCH_FORMAT: &str = "\
 Writes one table with a row for each scenario in place of blocks: as `text`, with

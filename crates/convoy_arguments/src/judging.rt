@@ -1,17 +1,18 @@
 ghost use Rattle.std.specs.Prelude.{◌≡◌, ◌⊎◌, IfOk};
 ghost use Rattle.convoy_arguments.specs.Verdicts.{EndsAtOnce, IsVerdict, WantsOnlyIfChecks};
 
-use super::asking::{Unasked, asked_of, sweep_of};
+use super::asking::{Unasked, asked_of, curve_of, sweep_of};
 use super::escaping::{are_shown, with_escapes};
 use super::input::{Input, Inputs};
 use super::limits::{HELP, REJECTED};
 use super::manner::Manner;
-use super::options::{format_of, options_of, simulations_of, steps_of, unit_of};
+use super::options::{format_of, is_image, options_of, simulations_of, steps_of, unit_of};
 use super::parser::parser;
 use super::tips::without_tip;
 use super::verdict::Verdict;
 use clap::error::ErrorKind;
 use clap::{ArgMatches, Error};
+use convoy_best_order::Wanted;
 use convoy_commands::Telling;
 use convoy_tasks::Task;
 use convoy_toml::Asked;
@@ -257,7 +258,12 @@ fn task_for(
         "scenario" => Ok(Task::Tell(Telling::Toml)),
         "check" | "explain" | "draw" => Ok(certificate_task_for(name, given)),
         "ceiling" => ceiling_for(alloc, given, asked),
+        "report" => Ok(Task::Report {
+            asked,
+            options: options_of(given),
+        }),
         "budget" => Ok(budget_for(given, asked)),
+        "order" => Ok(order_for(given, asked)),
         "batch" | "survey" => Ok(table_for(name, given, asked)),
         _ => Ok(Task::First { asked }),
     }
@@ -318,8 +324,38 @@ fn budget_for(given: &ArgMatches<'_>, asked: Asked) -> Task {
     }
 }
 
-/// What `sweep` asks for.
+/// What `order` asks for.
+fn order_for(given: &ArgMatches<'_>, asked: Asked) -> Task {
+    Task::Order {
+        format: format_of(given),
+        wanted: wanted_of(given),
+        with_reasons: given.get_flag("why"),
+        asked,
+        options: options_of(given),
+    }
+}
+
+/// For which targets an order is to be the best.
+fn wanted_of(given: &ArgMatches<'_>) -> Wanted {
+    if given.get_flag("all") {
+        Wanted::All
+    } else if given.get_str("target").is_some() {
+        Wanted::Asked
+    } else {
+        Wanted::Deadlines
+    }
+}
+
+/// What `sweep` asks for: a curve, or a table.
 fn sweep_for(alloc: Global, given: &ArgMatches<'_>, asked: Asked) -> Result<Task, Unasked> {
+    if is_image(given) {
+        return Ok(Task::Curve {
+            setting: curve_of(alloc, given)?,
+            envelope: given.get_flag("envelope"),
+            asked,
+            options: options_of(given),
+        });
+    }
     Ok(Task::Sweep {
         format: format_of(given),
         sweep: sweep_of(alloc, given)?,

@@ -31,6 +31,11 @@ pub(crate) fn format_of(given: &ArgMatches<'_>) -> Format {
     }
 }
 
+/// Whether an image is asked for in place of a table.
+pub(crate) fn is_image(given: &ArgMatches<'_>) -> bool {
+    given.get_str("format") == Some("svg")
+}
+
 /// The unit in which times are told, where one is given. `clap` rejects a word that names none.
 pub(crate) fn unit_of(given: &ArgMatches<'_>) -> Option<TimeUnit> {
     let word = given.get_str("unit")?;

@@ -1,17 +1,18 @@
 //! The commands and their options, in the order in which help lists them.
 
 use super::help::{
-    ABOUT_ALL, ABOUT_ALL_CHANGES, ABOUT_ALL_DEADLINES, ABOUT_ANALYSE, ABOUT_AT_MOST, ABOUT_BATCH,
-    ABOUT_BATCH_AT_MOST, ABOUT_BATCH_FORMAT, ABOUT_BESIDE, ABOUT_BOUNDS, ABOUT_BUDGET,
-    ABOUT_CEILING, ABOUT_CHECK, ABOUT_DRAW, ABOUT_ENVELOPE, ABOUT_EXPLAIN, ABOUT_FIRST,
-    ABOUT_FORMAT, ABOUT_GROUP, ABOUT_JOBS, ABOUT_LATENCY, ABOUT_LIMIT, ABOUT_OF_CEILING,
-    ABOUT_PACKETS, ABOUT_PROGRESS, ABOUT_SCENARIO, ABOUT_SECONDS, ABOUT_SEEK, ABOUT_SEEK_TRAFFIC,
-    ABOUT_SET, ABOUT_SIMULATE, ABOUT_STATUS, ABOUT_STEPS, ABOUT_SURVEY, ABOUT_SWEEP, ABOUT_TARGET,
-    ABOUT_TELL, ABOUT_TIMELINE, ABOUT_UNIT, ABOUT_WANTED, ABOUT_WITHOUT, ABOUT_WORKERS,
+    ABOUT_ALL, ABOUT_ALL_CHANGES, ABOUT_ALL_DEADLINES, ABOUT_ALL_TARGETS, ABOUT_ANALYSE,
+    ABOUT_AT_MOST, ABOUT_BATCH, ABOUT_BATCH_AT_MOST, ABOUT_BATCH_FORMAT, ABOUT_BESIDE,
+    ABOUT_BOUNDS, ABOUT_BUDGET, ABOUT_CEILING, ABOUT_CHECK, ABOUT_DRAW, ABOUT_ENVELOPE,
+    ABOUT_EXPLAIN, ABOUT_FIRST, ABOUT_FORMAT, ABOUT_GROUP, ABOUT_JOBS, ABOUT_LATENCY, ABOUT_LIMIT,
+    ABOUT_OF_CEILING, ABOUT_ORDER, ABOUT_PACKETS, ABOUT_PROGRESS, ABOUT_REPORT, ABOUT_SCENARIO,
+    ABOUT_SECONDS, ABOUT_SEEK, ABOUT_SEEK_TRAFFIC, ABOUT_SET, ABOUT_SIMULATE, ABOUT_STATUS,
+    ABOUT_STEPS, ABOUT_SURVEY, ABOUT_SWEEP, ABOUT_SWEEP_FORMAT, ABOUT_TARGET, ABOUT_TELL,
+    ABOUT_TIMELINE, ABOUT_UNIT, ABOUT_WANTED, ABOUT_WHY, ABOUT_WITHOUT, ABOUT_WORKERS,
     LONG_ABOUT_ANALYSE, LONG_ABOUT_BATCH, LONG_ABOUT_BUDGET, LONG_ABOUT_CEILING, LONG_ABOUT_CHECK,
-    LONG_ABOUT_DRAW, LONG_ABOUT_EXPLAIN, LONG_ABOUT_FIRST, LONG_ABOUT_LATENCY, LONG_ABOUT_PACKETS,
-    LONG_ABOUT_SCENARIO, LONG_ABOUT_SIMULATE, LONG_ABOUT_SURVEY, LONG_ABOUT_SWEEP,
-    LONG_ABOUT_TIMELINE,
+    LONG_ABOUT_DRAW, LONG_ABOUT_EXPLAIN, LONG_ABOUT_FIRST, LONG_ABOUT_LATENCY, LONG_ABOUT_ORDER,
+    LONG_ABOUT_PACKETS, LONG_ABOUT_REPORT, LONG_ABOUT_SCENARIO, LONG_ABOUT_SIMULATE,
+    LONG_ABOUT_SURVEY, LONG_ABOUT_SWEEP, LONG_ABOUT_TIMELINE,
 };
 use super::limits::MOST_SECONDS;
 use clap::builder::ValueParser;
@@ -179,12 +180,12 @@ const JOBS: Setting = Setting {
     company: Company::Any,
 };
 
-/// The same of a survey: of changes it has none.
-const SURVEY_JOBS: Setting = Setting {
+/// The same of a batch, which has rows where it is written as a table.
+const BATCH_JOBS: Setting = Setting {
     name: "jobs",
     about: ABOUT_JOBS,
     value: ROWS_AT_A_TIME,
-    company: Company::Without("without"),
+    company: Company::With("format"),
 };
 
 /// Whether a search tells how far it has come.
@@ -232,6 +233,17 @@ const BATCH_FORMAT: Setting = Setting {
     name: "format",
     about: ABOUT_BATCH_FORMAT,
     value: FORMATS,
+    company: Company::Any,
+};
+
+/// How a sweep is written: as a table, or as a curve.
+const SWEEP_FORMAT: Setting = Setting {
+    name: "format",
+    about: ABOUT_SWEEP_FORMAT,
+    value: Value::Given(
+        "FORMAT",
+        ValueParser::Names(&["text", "csv", "json", "svg"]),
+    ),
     company: Company::Any,
 };
 
@@ -323,7 +335,7 @@ const OF_CEILING: Setting = Setting {
     company: Company::Any,
 };
 
-/// The target of a budget, where one alone is asked for.
+/// The target of a budget or of an order, where one alone is asked for.
 const BUDGET_TARGET: Setting = Setting {
     name: "target",
     about: ABOUT_TARGET,
@@ -337,6 +349,22 @@ const CHANGES_TARGET: Setting = Setting {
     about: ABOUT_TARGET,
     value: NAMED_TARGET,
     company: Company::With("without"),
+};
+
+/// Whether an order is to be the best for all messages.
+const ALL_TARGETS: Setting = Setting {
+    name: "all",
+    about: ABOUT_ALL_TARGETS,
+    value: Value::Absent,
+    company: Company::Any,
+};
+
+/// Whether the reasons are told why no order is better.
+const WHY: Setting = Setting {
+    name: "why",
+    about: ABOUT_WHY,
+    value: Value::Absent,
+    company: Company::Any,
 };
 
 /// Which values a sweep gives a key, once for each key.
@@ -380,7 +408,7 @@ const TELL: Setting = Setting {
 };
 
 /// The commands.
-pub(crate) const COMMANDS: [Listed; 15] = [
+pub(crate) const COMMANDS: [Listed; 17] = [
     Listed {
         name: "analyse",
         about: ABOUT_ANALYSE,
@@ -433,7 +461,7 @@ pub(crate) const COMMANDS: [Listed; 15] = [
             SEEK,
             BOUNDS,
             WORKERS,
-            SURVEY_JOBS,
+            JOBS,
             PROGRESS,
             FORMAT,
             UNIT,
@@ -442,6 +470,14 @@ pub(crate) const COMMANDS: [Listed; 15] = [
             WITHOUT,
             CHANGES_TARGET,
             ALL_CHANGES,
+        ],
+    },
+    Listed {
+        name: "report",
+        about: ABOUT_REPORT,
+        long_about: LONG_ABOUT_REPORT,
+        settings: &[
+            TARGET, AT_MOST, LIMIT, SECONDS, SEEK, BOUNDS, WORKERS, JOBS, PROGRESS, UNIT,
         ],
     },
     Listed {
@@ -458,6 +494,26 @@ pub(crate) const COMMANDS: [Listed; 15] = [
             SEEK,
             BOUNDS,
             WORKERS,
+            JOBS,
+            PROGRESS,
+            FORMAT,
+            UNIT,
+        ],
+    },
+    Listed {
+        name: "order",
+        about: ABOUT_ORDER,
+        long_about: LONG_ABOUT_ORDER,
+        settings: &[
+            BUDGET_TARGET,
+            AT_MOST,
+            ALL_TARGETS,
+            WHY,
+            LIMIT,
+            SECONDS,
+            SEEK,
+            BOUNDS,
+            WORKERS,
             PROGRESS,
             FORMAT,
             UNIT,
@@ -468,8 +524,19 @@ pub(crate) const COMMANDS: [Listed; 15] = [
         about: ABOUT_SWEEP,
         long_about: LONG_ABOUT_SWEEP,
         settings: &[
-            SET, ENVELOPE, TARGET, AT_MOST, LIMIT, SECONDS, SEEK, BOUNDS, WORKERS, JOBS, PROGRESS,
-            FORMAT, UNIT,
+            SET,
+            ENVELOPE,
+            TARGET,
+            AT_MOST,
+            LIMIT,
+            SECONDS,
+            SEEK,
+            BOUNDS,
+            WORKERS,
+            JOBS,
+            PROGRESS,
+            SWEEP_FORMAT,
+            UNIT,
         ],
     },
     Listed {
@@ -482,6 +549,7 @@ pub(crate) const COMMANDS: [Listed; 15] = [
             SEEK,
             BOUNDS,
             WORKERS,
+            BATCH_JOBS,
             PROGRESS,
             BATCH_AT_MOST,
             STATUS,

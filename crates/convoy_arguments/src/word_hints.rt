@@ -6,31 +6,38 @@ use std::convert::AsStr;
 use std::fmt;
 
 /// The commands that write tables: `ceiling` where it is asked for several ceilings.
-const WITH_TABLES: [&str; 5] = ["survey", "batch", "ceiling", "budget", "sweep"];
+const WITH_TABLES: [&str; 6] = ["survey", "batch", "ceiling", "budget", "order", "sweep"];
 
 /// Options of a command or two, and these commands as they are told.
-const OF_SOME: [(&str, &str); 12] = [
-    ("all", "'ceiling', 'budget' and 'survey --without'"),
+const OF_SOME: [(&str, &str); 13] = [
+    ("all", "'ceiling', 'budget', 'order' and 'survey --without'"),
     ("group", "'ceiling'"),
     ("ceiling", "'latency', 'explain', 'survey' and 'budget'"),
     ("without", "'survey'"),
     ("scenario", "'check'"),
     ("tell", "'check'"),
+    ("why", "'order'"),
     ("status", "'batch'"),
     (
         "at-most",
-        "'latency', 'analyse', 'survey', 'ceiling', 'budget' and 'batch'",
+        "'latency', 'analyse', 'survey', 'report', 'ceiling', 'budget', 'order', 'sweep' and 'batch'",
     ),
     (
         "target",
-        "'first', 'latency', 'analyse', 'ceiling', 'budget' and 'survey --without'",
+        "'first', 'latency', 'analyse', 'report', 'ceiling', 'budget', 'order', 'sweep' and 'survey --without'",
     ),
     (
         "unit",
-        "'latency', 'survey', 'ceiling', 'budget', 'batch', 'explain', 'draw' and 'check'",
+        "'latency', 'survey', 'report', 'ceiling', 'budget', 'order', 'sweep', 'batch', 'explain', 'draw' and 'check'",
     ),
-    ("jobs", "'survey', 'budget' and 'batch --format'"),
-    ("format", "'survey', 'batch', 'ceiling' and 'budget'"),
+    (
+        "jobs",
+        "'survey', 'report', 'budget', 'sweep' and 'batch --format'",
+    ),
+    (
+        "format",
+        "'survey', 'batch', 'ceiling', 'budget', 'order' and 'sweep'",
+    ),
 ];
 
 /// The options by which `ceiling` is asked for several ceilings.
@@ -40,11 +47,16 @@ const OF_SEVERAL: [&str; 2] = ["--all", "--group"];
 const FILE_OPTIONS: [&str; 4] = ["-i", "-f", "--input", "--file"];
 
 /// Options by which other programs let a format be chosen, and the formats.
-const FORMAT_OPTIONS: [(&str, &str); 3] = [
+const FORMAT_OPTIONS: [(&str, &str); 4] = [
     ("--text", "text"),
     ("--csv", "csv"),
     ("--json", "json"),
+    ("--svg", "svg"),
 ];
+
+/// What to write where a command is to draw that draws nothing.
+const OF_IMAGES: &str =
+    "hint: 'sweep --format svg' draws a curve, and 'draw' the run of a certificate\n";
 
 /// What the next word of a command line is the value of.
 #[derive(Clone, Copy)]
@@ -178,6 +190,12 @@ impl<'a> Sorted<'a> {
             || self.names_format && (!WITH_TABLES.contains(&named) || self.lacks_several())
     }
 
+    /// Whether an image is asked for, and not of `sweep`.
+    fn misdraws(&self) -> bool {
+        let draws = |word: &&str| -> bool { *word == "svg" || *word == "--format=svg" };
+        self.named_command() != "sweep" && self.settings.iter().any(draws)
+    }
+
     /// The scenario that stands behind a certificate where an option is to name it.
     fn second_text(&self) -> Option<&'a str> {
         match self.operands.as_slice() {
@@ -239,6 +257,9 @@ impl<'a> Sorted<'a> {
 /// line `hint: ..`. None where that is not what is wrong, or not all.
 pub fn hint_for_words<S: AsStr>(alloc: Global, words: &[S]) -> Result<Option<String>, AllocError> {
     let sorted = Sorted::of(alloc, words)?;
+    if sorted.misdraws() {
+        return String::from_str(alloc, OF_IMAGES).map(Some);
+    }
     let Some((mistake, file)) = sorted.mistake() else {
         return hint_for_option(alloc, &sorted);
     };

@@ -35,6 +35,8 @@ pub use Rattle.convoy_sim.specs.Greatest
 -- one scenario in ticks and in finer ones
 pub use Rattle.convoy_laws.specs.FinerTicks
 pub use Rattle.convoy_laws.specs.FinerTexts
+-- one scenario with two choices of when its messages may be issued
+pub use Rattle.convoy_laws.specs.IssueWindows
 -- the ceiling, in traffic of a scenario's kinds of messages
 pub use Rattle.convoy_ceiling.specs.Ceiling
 pub use Rattle.convoy_ceiling.specs.Targets

@@ -8,5 +8,6 @@ pub mod BatchFailures
 pub mod BatchRuns
 pub mod Blocks
 pub mod Labels
+pub mod KeptRows
 pub mod JobCells
 pub mod WorkedCells

@@ -35,13 +35,15 @@ use Rattle.convoy_commands.proofs.TellTexts.{job_no_device as told_no_device}
 use Rattle.convoy_commands.proofs.WithinTexts.{fault_within}
 use Rattle.convoy_survey.specs.CeilingTables.{CeilingsSay}
 use Rattle.convoy_what_if.specs.WhatIf.{WhatIfSays}
+use Rattle.convoy_report.specs.Reports.{ReportSays}
 use Rattle.convoy_budget.specs.Answers.{BudgetSays}
-use Rattle.convoy_sweep.specs.Told.{SweepTold, told_of_sweep}
+use Rattle.convoy_sweep.specs.Told.{CurveTold, SweepTold, told_of_sweep}
 use Rattle.convoy_sweep.specs.declared.fault.SweepFault.{SweepFault}
 use Rattle.convoy_sweep.specs.declared.fault.SweepFault.TheVariants as sweeps
+use Rattle.convoy_sweep.specs.declared.kinds.Setting.{Setting}
 use Rattle.convoy_sweep.specs.declared.kinds.Sweep.{Sweep as AskedSweep}
 use Rattle.convoy_tasks.specs.declared.task.Task.{Task}
-use Rattle.convoy_tasks.specs.declared.task.Task.TheVariants.{First, Tell, Check, Explain, Draw, Ceiling, Ceilings, Analyse, Latency, Survey, WhatIf, Budget, Sweep, BatchTable}
+use Rattle.convoy_tasks.specs.declared.task.Task.TheVariants.{First, Tell, Check, Explain, Draw, Ceiling, Ceilings, Analyse, Latency, Survey, WhatIf, Report, Budget, Order, Sweep, Curve, BatchTable}
 use Rattle.convoy_tasks.specs.Abouts.{check_says}
 use Rattle.convoy_tasks.specs.Tasks.{task_says}
 
@@ -100,6 +102,11 @@ what_if_no_device : (format : Format) (shows_all : Bool) (asked : Asked) (settin
 what_if_no_device format shows_all asked settings text fault (inl faulty) = search_no_device asked text fault faulty
 what_if_no_device format shows_all asked settings text fault (inr is) = rw is.broken.makes_none.told tt
 
+report_no_device : (asked : Asked) (settings : Settings) (text : List ℕ) (fault : Fault) → ReportSays asked settings text (Err fault) → IsNoDevice fault
+report_no_device asked settings text fault (inl faulty) = search_no_device asked text fault faulty
+report_no_device asked settings text fault (inr (inl is)) = search_no_device (record asked { target = is.target }) text fault is.faulty
+report_no_device asked settings text fault (inr (inr is)) = rw is.broken.makes_none.told tt
+
 budget_no_device : (format : Format) (of_all of_ceiling : Bool) (asked : Asked) (settings : Settings) (text : List ℕ) (fault : Fault) → BudgetSays format of_all of_ceiling asked settings text (Err fault) → IsNoDevice fault
 budget_no_device format of_all of_ceiling asked settings text fault (inl faulty) = search_no_device asked text fault faulty
 budget_no_device format of_all of_ceiling asked settings text fault (inr (inl none)) = rw none.told tt
@@ -117,6 +124,9 @@ swept_no_device (sweeps.Value point cause) = tt
 sweep_no_device : (format : Format) (sweep : AskedSweep) (envelope : Bool) (asked : Asked) (settings : Settings) (text : List ℕ) (fault : Fault) → SweepTold format sweep envelope asked settings text (Err fault) → IsNoDevice fault
 sweep_no_device format sweep envelope asked settings text fault says = rw says.told (swept_no_device says.cause)
 
+curve_no_device : (setting : Setting) (envelope : Bool) (asked : Asked) (settings : Settings) (text : List ℕ) (fault : Fault) → CurveTold setting envelope asked settings text (Err fault) → IsNoDevice fault
+curve_no_device setting envelope asked settings text fault says = rw says.told (swept_no_device says.cause)
+
 pub says_no_device : (task : Task) (wanted : Option Scenario) (text : List ℕ) (fault : Fault) → task_says task wanted text (Err fault) → IsNoDevice fault
 says_no_device (First asked) wanted text fault says = first_no_device asked text fault (fault_of_fine (first_text asked text) fault says)
 says_no_device (Tell telling) wanted text fault says = tell_no_device telling text fault says
@@ -132,6 +142,9 @@ says_no_device (Analyse asked options) wanted text fault says = search_no_device
 says_no_device (Latency with_ceiling asked options) wanted text fault says = latency_no_device with_ceiling asked options text fault says
 says_no_device (Survey format with_ceilings asked options) wanted text fault says = search_no_device asked text fault says
 says_no_device (WhatIf format shows_all asked options) wanted text fault says = what_if_no_device format shows_all asked options text fault says
+says_no_device (Report asked options) wanted text fault says = report_no_device asked options text fault says
 says_no_device (Budget format of_all of_ceiling asked options) wanted text fault says = budget_no_device format of_all of_ceiling asked options text fault says
+says_no_device (Order format wanting with_reasons asked options) wanted text fault says = search_no_device asked text fault says
 says_no_device (Sweep format sweep envelope asked options) wanted text fault says = sweep_no_device format sweep envelope asked options text fault says
+says_no_device (Curve setting envelope asked options) wanted text fault says = curve_no_device setting envelope asked options text fault says
 says_no_device (BatchTable format asked options tells_status) wanted text fault says = rw says.0 tt

@@ -1,6 +1,7 @@
 -- What is found of the jobs of a batch.
-use Rattle.std.specs.Prelude.{◌≡◌, ◌⊎◌, ℕ, ◌<◌, ◌≤◌, List, length, Result, Ok, Err}
+use Rattle.std.specs.Prelude.{◌≡◌, ◌⊎◌, ℕ, ◌<◌, ◌≤◌, List, length, IfOk, Result, Ok, Err}
 use Rattle.std.specs.List.{AllZip}
+use Rattle.std.specs.declared.alloc.AllocError.{AllocError}
 use Rattle.convoy_streams.specs.declared.reading.ReadFault.TheVariants.{TooLong}
 use Rattle.convoy_streams.specs.Jobs.{Job}
 use Rattle.convoy_toml.specs.declared.asked.Asked.{Asked}
@@ -19,6 +20,8 @@ use Rattle.convoy_survey.specs.declared.finding.Finding.TheVariants.{Greatest, O
 use Rattle.convoy_survey.specs.Findings.{IsFinding}
 use Rattle.convoy_tasks.specs.declared.job_row.JobFinding.{JobFinding}
 use Rattle.convoy_tasks.specs.declared.job_row.JobRow.{JobRow}
+use Rattle.convoy_tasks.specs.declared.kept_jobs.KeptJob.{KeptJob}
+use Rattle.convoy_tasks.specs.KeptJobs.{IsKeptJob}
 
 -- A search for the scenario of a text, where that is asked, found that of the latency that is asked there; and times are told, and the target has a deadline, as `latency` tells it of the text.
 pub record IsSearched (asked : Asked) (settings : Settings) (text : List ℕ) (found : JobFinding) : Type 0 where
@@ -41,6 +44,10 @@ pub record IsJobFound (asked : Asked) (settings : Settings) (job : Job) (found :
 pub record IsJobRow (asked : Asked) (settings : Settings) (job : Job) (row : JobRow) : Type 0 where
   pub label : row.label.items ≡ job.label
   pub found : IsJobFound asked settings job row.found
+
+-- what may come of a job that was kept: its row, unless there is no memory for that
+abbrev pub MayBeRow : Asked → Settings → KeptJob → Result JobRow AllocError → Type 0
+MayBeRow asked settings kept answer = (job : Job) → IsKeptJob job kept → IfOk answer (IsJobRow asked settings job)
 
 -- there is a row for each job, in their order
 abbrev pub AreJobRows : Asked → Settings → List Job → List JobRow → Type 0

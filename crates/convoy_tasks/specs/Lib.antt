@@ -30,7 +30,9 @@ pub use Rattle.convoy_commands.specs.CommandLaws
 pub use Rattle.convoy_survey.specs.Surveys
 pub use Rattle.convoy_survey.specs.CeilingTables
 pub use Rattle.convoy_what_if.specs.WhatIf
+pub use Rattle.convoy_report.specs.Reports
 pub use Rattle.convoy_budget.specs.Answers as BudgetAnswers
+pub use Rattle.convoy_best_order.specs.Answers as OrderAnswers
 pub use Rattle.convoy_scenario.specs.Differences
 -- what a reader has to believe: what is told of what was accepted, what may be answered for each task, and what its run does at its devices
 pub mod AcceptedLines
@@ -39,6 +41,7 @@ pub mod Tasks
 pub mod Runs
 pub mod TaskLaws
 pub mod Batches
+pub mod KeptJobs
 pub mod JobRows
 pub mod JobTables
 pub mod BatchTables

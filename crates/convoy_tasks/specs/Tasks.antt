@@ -16,12 +16,14 @@ use Rattle.convoy_commands.specs.Withins.{SaysWithin}
 use Rattle.convoy_survey.specs.CeilingTables.{CeilingsSay}
 use Rattle.convoy_survey.specs.Surveys.{SurveySays}
 use Rattle.convoy_what_if.specs.WhatIf.{WhatIfSays}
+use Rattle.convoy_report.specs.Reports.{ReportSays}
 use Rattle.convoy_budget.specs.Answers.{BudgetSays}
-use Rattle.convoy_sweep.specs.Told.{SweepTold}
+use Rattle.convoy_best_order.specs.Answers.{OrderSays}
+use Rattle.convoy_sweep.specs.Told.{CurveTold, SweepTold}
 use Rattle.convoy_tasks.specs.declared.batch_table.TheConstants.{LONGEST_BATCH}
 use Rattle.convoy_tasks.specs.BatchTables.{BatchTableSays}
 use Rattle.convoy_tasks.specs.declared.task.Task.{Task}
-use Rattle.convoy_tasks.specs.declared.task.Task.TheVariants.{First, Tell, Check, Explain, Draw, Ceiling, Ceilings, Analyse, Latency, Survey, WhatIf, Budget, Sweep, BatchTable}
+use Rattle.convoy_tasks.specs.declared.task.Task.TheVariants.{First, Tell, Check, Explain, Draw, Ceiling, Ceilings, Analyse, Latency, Survey, WhatIf, Report, Budget, Order, Sweep, Curve, BatchTable}
 use Rattle.convoy_tasks.specs.Abouts.{check_says}
 
 -- THE RULE OF A TASK: what may be answered for a text. The scenario that is wanted, if one is, is that of which a certificate has to be; no other task looks at it.
@@ -37,8 +39,11 @@ task_says (Analyse asked options) wanted = AnalyseSays asked options
 task_says (Latency with_ceiling asked options) wanted = latency_says with_ceiling asked options
 task_says (Survey format with_ceilings asked options) wanted = SurveySays format with_ceilings asked options
 task_says (WhatIf format shows_all asked options) wanted = WhatIfSays format shows_all asked options
+task_says (Report asked options) wanted = ReportSays asked options
 task_says (Budget format of_all of_ceiling asked options) wanted = BudgetSays format of_all of_ceiling asked options
+task_says (Order format wanting with_reasons asked options) wanted = OrderSays format wanting with_reasons asked options
 task_says (Sweep format sweep envelope asked options) wanted = SweepTold format sweep envelope asked options
+task_says (Curve setting envelope asked options) wanted = CurveTold setting envelope asked options
 task_says (BatchTable format asked options tells_status) wanted = BatchTableSays format asked options
 
 -- HOW LONG ITS TEXT MAY BE, in bytes: as long as a certificate's where it may be one, and as long as a job's else
@@ -54,8 +59,11 @@ longest_for (Analyse asked options) = LONGEST_JOB
 longest_for (Latency with_ceiling asked options) = LONGEST_JOB
 longest_for (Survey format with_ceilings asked options) = LONGEST_JOB
 longest_for (WhatIf format shows_all asked options) = LONGEST_JOB
+longest_for (Report asked options) = LONGEST_JOB
 longest_for (Budget format of_all of_ceiling asked options) = LONGEST_JOB
+longest_for (Order format wanting with_reasons asked options) = LONGEST_JOB
 longest_for (Sweep format sweep envelope asked options) = LONGEST_JOB
+longest_for (Curve setting envelope asked options) = LONGEST_JOB
 longest_for (BatchTable format asked options tells_status) = LONGEST_BATCH
 
 -- the task is done without a search for the greatest latency
@@ -64,7 +72,10 @@ NeedsNoSearch (Analyse asked options) = ⊥
 NeedsNoSearch (Latency with_ceiling asked options) = ⊥
 NeedsNoSearch (Survey format with_ceilings asked options) = ⊥
 NeedsNoSearch (WhatIf format shows_all asked options) = ⊥
+NeedsNoSearch (Report asked options) = ⊥
 NeedsNoSearch (Budget format of_all of_ceiling asked options) = ⊥
+NeedsNoSearch (Order format wanting with_reasons asked options) = ⊥
 NeedsNoSearch (Sweep format sweep envelope asked options) = ⊥
+NeedsNoSearch (Curve setting envelope asked options) = ⊥
 NeedsNoSearch (BatchTable format asked options tells_status) = ⊥
 NeedsNoSearch other = Unit {0}

@@ -10,14 +10,16 @@ ghost use Rattle.convoy_tasks.specs.Tasks.{NeedsNoSearch, longest_for, task_says
 use super::batch_table::{LONGEST_BATCH, batch_table_answer};
 use super::checking::check_answer;
 use super::task::Task;
+use convoy_best_order::order_answer;
 use convoy_budget::budget_answer;
 use convoy_commands::{
     Answer, Asking, Fault, LONGEST_CERTIFICATE, LONGEST_JOB, Watch, analyse_answer, ask,
     ceiling_answer, explain_with_ceiling, first_answer, latency_answer, tell,
 };
+use convoy_report::report_answer;
 use convoy_scenario::{Scenario, TimeUnit};
 use convoy_survey::{ceilings_answer, survey_answer};
-use convoy_sweep::sweep_told;
+use convoy_sweep::{curve_told, sweep_told};
 use convoy_tables::Format;
 use convoy_toml::Asked;
 use convoy_what_if::what_if_answer;
@@ -77,15 +79,11 @@ pub fn answer<R: Threads + Wait + Sync, W: Watch + Sync>(
             asked,
             options,
         } => what_if_answer(
-            rt,
-            alloc,
-            *format,
-            *shows_all,
-            asked,
-            options,
-            text,
-            &watches[0],
+            rt, alloc, *format, *shows_all, asked, options, text, watches,
         ),
+        Task::Report { asked, options } => {
+            report_answer(rt, alloc, asked, options, text, watches)
+        }
         Task::Budget {
             format,
             of_all,
@@ -101,6 +99,23 @@ pub fn answer<R: Threads + Wait + Sync, W: Watch + Sync>(
             asked,
             options,
             text,
+            watches,
+        ),
+        Task::Order {
+            format,
+            wanted,
+            with_reasons,
+            asked,
+            options,
+        } => order_answer(
+            rt,
+            alloc,
+            *format,
+            *wanted,
+            *with_reasons,
+            asked,
+            options,
+            text,
             &watches[0],
         ),
         Task::Sweep {
@@ -112,12 +127,18 @@ pub fn answer<R: Threads + Wait + Sync, W: Watch + Sync>(
         } => sweep_told(
             rt, alloc, *format, sweep, *envelope, asked, options, text, watches,
         ),
+        Task::Curve {
+            setting,
+            envelope,
+            asked,
+            options,
+        } => curve_told(rt, alloc, setting, *envelope, asked, options, text, watches),
         Task::BatchTable {
             format,
             asked,
             options,
             ..
-        } => batch_table_answer(rt, alloc, asked, options, *format, text, &watches[0]),
+        } => batch_table_answer(rt, alloc, asked, options, *format, text, watches),
         Task::First { .. }
         | Task::Tell(_)
         | Task::Check { .. }
@@ -167,8 +188,11 @@ pub(crate) fn answer_at_once(
         | Task::Latency { .. }
         | Task::Survey { .. }
         | Task::WhatIf { .. }
+        | Task::Report { .. }
         | Task::Budget { .. }
+        | Task::Order { .. }
         | Task::Sweep { .. }
+        | Task::Curve { .. }
         | Task::BatchTable { .. } => unreachable!(),
     }
 }
@@ -229,7 +253,10 @@ pub fn longest_of(task: &Task) -> usize
         | Task::Latency { .. }
         | Task::Survey { .. }
         | Task::WhatIf { .. }
+        | Task::Report { .. }
         | Task::Budget { .. }
-        | Task::Sweep { .. } => LONGEST_JOB,
+        | Task::Order { .. }
+        | Task::Sweep { .. }
+        | Task::Curve { .. } => LONGEST_JOB,
     }
 }

@@ -1,4 +1,4 @@
-ghost use Rattle.std.specs.Prelude.{◌≡◌, length};
+ghost use Rattle.std.specs.Prelude.{◌≡◌, ◌<◌, length};
 ghost use Rattle.convoy_streams.specs.Jobs.{jobs_of};
 ghost use Rattle.convoy_commands.specs.Replies.{SaysUnlessMemory, reply_of};
 ghost use Rattle.convoy_tasks.specs.BatchTables.{BatchTableSays, end_of_rows};
@@ -23,9 +23,9 @@ pub const LONGEST_BATCH: usize = LONGEST_CERTIFICATE;
 /// as times in a unit of its own where the length of a tick is known, and are those that
 /// [`latency_answer`](convoy_commands::latency_answer) tells of the job's own text, where that is asked. Where the target
 /// of some job has a deadline, each row has the verdict on that of its own. It ends as the worst of all jobs, which is
-/// `Done::Fine` where each has the greatest latency, or keeps its deadline. Each search is watched, by
-/// [`NoGate`](convoy_branch::NoGate) where nobody watches; where the options have seconds each job has them for
-/// itself, and the watch counts them.
+/// `Done::Fine` where each has the greatest latency, or keeps its deadline. As many jobs are searched at a time as there
+/// are watches, each watched by one: by [`NoGate`](convoy_branch::NoGate) where nobody watches; where the options have
+/// seconds each job has them for itself, and its watch counts them.
 ///
 /// A job with a fault has that in place of an answer, and so does one of more than [`LONGEST_JOB`] bytes
 /// (`ReadFault::TooLong`), and one for which memory runs out. Faults of the whole are `Fault::TooManyJobs`, where there
@@ -37,14 +37,15 @@ pub fn batch_table_answer<R: Threads + Wait + Sync, W: Watch + Sync>(
     options: &Options,
     format: Format,
     text: &[u8],
-    watch: &W,
+    watches: &[W],
 ) -> Result<Answer, Fault>
+    requires { 0 < length watches.now }
     ensures { SaysUnlessMemory (BatchTableSays format asked.now options.now) text.now (reply_of result) }
 {
     if count_jobs(alloc, text) > MOST_JOBS as usize {
         return Err(Fault::TooManyJobs);
     }
-    let rows = rows_of(rt, alloc, asked, text, options, watch)?;
+    let rows = rows_of(rt, alloc, asked, text, options, watches)?;
     let table = text_of(alloc, format, &rows)?;
     Ok(Answer {
         done: end_of_rows(&rows),

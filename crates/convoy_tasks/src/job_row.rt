@@ -1,15 +1,17 @@
 //! What is found of the jobs of a batch that is answered as a table.
 
-ghost use Rattle.std.specs.Prelude.{◌≡◌, [], ◌∷◌, ◌++◌, List, IfOk, OnOk};
+ghost use Rattle.std.specs.Prelude.{◌≡◌, ◌<◌, length, IfOk};
+ghost use Rattle.std.specs.List.{AllZip};
 ghost use Rattle.convoy_streams.specs.Jobs.{Job, jobs_of};
-ghost use Rattle.convoy_streams.specs.Splitting.{Holds};
-ghost use Rattle.convoy_commands.specs.declared.limits.TheConstants.{LONGEST_JOB};
-ghost use Rattle.convoy_tasks.specs.JobRows.{AreJobRows, IsJobFound, JobFinds, end_of_found};
+ghost use Rattle.convoy_tasks.specs.JobRows.{AreJobRows, IsJobFound, JobFinds, MayBeRow, end_of_found};
+ghost use Rattle.convoy_tasks.specs.KeptJobs.{IsKeptJob};
 
+use super::kept_jobs::{KeptJob, jobs_of};
 use convoy_branch::Options;
 use convoy_commands::{Done, Fault, LONGEST_JOB, Watch, deadline_at, judged};
 use convoy_packets::Instance;
-use convoy_streams::{JobFault, ReadFault, Splitter};
+use convoy_rows::{all_values, make_each};
+use convoy_streams::{JobFault, ReadFault};
 use convoy_survey::{Finding, find};
 use convoy_times::Measure;
 use convoy_toml::{Asked, read_toml_asked};
@@ -49,65 +51,71 @@ pub(crate) struct JobRow {
     pub(crate) found: Result<JobFinding, Fault>,
 }
 
-/// What is found of each job of a text, where that is asked of each, in their order. Each search is watched. Fails where there is no memory
-/// for the rows, and else never.
+/// What is found of each job of a text, where that is asked of each, in their order: of as many at a time as there are
+/// watches, each search watched by one. Fails where there is no memory for the jobs or the rows, and else never.
 pub(crate) fn rows_of<R: Threads + Wait + Sync, W: Watch + Sync>(
     rt: &R,
     alloc: Global,
     asked: &Asked,
     text: &[u8],
     options: &Options,
-    watch: &W,
+    watches: &[W],
 ) -> Result<Vec<JobRow>, AllocError>
+    requires { 0 < length watches.now }
     ensures { IfOk result (λ rows. AreJobRows asked.now options.now (jobs_of text.now) rows.items) }
 {
-    let mut splitter = Splitter::new(alloc, LONGEST_JOB);
-    let mut rows = Vec::new(alloc);
-    for byte in text {
-        if splitter.take(*byte) {
-            push_row(rt, alloc, asked, &splitter, options, watch, &mut rows)?;
-            splitter.start_next();
-        }
-    }
-    if splitter.finish() {
-        push_row(rt, alloc, asked, &splitter, options, watch, &mut rows)?;
-        splitter.start_next();
-    }
-    push_row(rt, alloc, asked, &splitter, options, watch, &mut rows)?;
-    Ok(rows)
+    let jobs = jobs_of(alloc, text)?;
+    let rows = rows_by(rt, alloc, asked, &jobs, options, watches)?;
+    all_values(alloc, rows)?
 }
 
-/// Appends what is found of the job that ended.
-fn push_row<R: Threads + Wait + Sync, W: Watch + Sync>(
+/// The row of each of these jobs, in their order, each by itself.
+fn rows_by<R: Threads + Wait + Sync, W: Watch + Sync>(
     rt: &R,
     alloc: Global,
     asked: &Asked,
-    splitter: &Splitter,
+    jobs: &[KeptJob],
     options: &Options,
-    watch: &W,
-    rows: &mut Vec<JobRow>,
-) -> Result<(), AllocError>
-    ensures { (jobs : List Job) (job : Job) →
-        AreJobRows asked.now options.now jobs rows.old.items → Holds LONGEST_JOB splitter.now job →
-        OnOk result (AreJobRows asked.now options.now (jobs ++ job ∷ []) rows.new.items) }
+    watches: &[W],
+) -> Result<Vec<Result<JobRow, AllocError>>, AllocError>
+    requires { 0 < length watches.now }
+    ensures { IfOk result (λ rows. AllZip (MayBeRow asked.now options.now) jobs.now rows.items) }
 {
-    let label = Vec::from_slice(alloc, splitter.label())?;
-    let found = find_job(rt, alloc, asked, splitter, options, watch);
-    Ok(rows.push(JobRow { label, found })?)
+    let row = |job: &KeptJob, watch: &W| -> Result<JobRow, AllocError>
+        ensures { MayBeRow asked.entry.now options.entry.now job.now result }
+    { row_of(rt, alloc, asked, job, options, watch) };
+    let rows = make_each(rt, alloc, watches, jobs, &row)?;
+    Ok(rows)
 }
 
-/// What is found of the job that ended.
+/// The row of a job. Fails where there is no memory for its label, and else never.
+fn row_of<R: Threads + Wait + Sync, W: Watch + Sync>(
+    rt: &R,
+    alloc: Global,
+    asked: &Asked,
+    job: &KeptJob,
+    options: &Options,
+    watch: &W,
+) -> Result<JobRow, AllocError>
+    ensures { MayBeRow asked.now options.now job.now result }
+{
+    let label = Vec::from_slice(alloc, &job.label)?;
+    let found = find_job(rt, alloc, asked, job, options, watch);
+    Ok(JobRow { label, found })
+}
+
+/// What is found of a job.
 fn find_job<R: Threads + Wait + Sync, W: Watch + Sync>(
     rt: &R,
     alloc: Global,
     asked: &Asked,
-    splitter: &Splitter,
+    kept: &KeptJob,
     options: &Options,
     watch: &W,
 ) -> Result<JobFinding, Fault>
-    ensures { (job : Job) → Holds LONGEST_JOB splitter.now job → IsJobFound asked.now options.now job result }
+    ensures { (job : Job) → IsKeptJob job kept.now → IsJobFound asked.now options.now job result }
 {
-    match splitter.job() {
+    match &kept.text {
         Ok(text) => find_text(rt, alloc, asked, text, options, watch),
         Err(JobFault::TooLong) => Err(Fault::Reading(ReadFault::TooLong(LONGEST_JOB))),
         Err(JobFault::Memory) => Err(Fault::Memory),

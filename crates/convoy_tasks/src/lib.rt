@@ -24,6 +24,7 @@ mod checking;
 mod ended;
 mod job_row;
 mod job_table;
+mod kept_jobs;
 mod running;
 mod task;
 pub mod task_laws;

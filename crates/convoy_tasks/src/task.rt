@@ -1,5 +1,6 @@
+use convoy_best_order::Wanted;
 use convoy_commands::{Options, Telling, TimeUnit};
-use convoy_sweep::Sweep;
+use convoy_sweep::{Setting, Sweep};
 use convoy_tables::Format;
 use convoy_toml::Asked;
 
@@ -76,6 +77,11 @@ pub enum Task {
         asked: Asked,
         options: Options,
     },
+    /// The report: a page in HTML of what other tasks answer.
+    Report {
+        asked: Asked,
+        options: Options,
+    },
     /// How slow each link may get, and how fast, before the target's deadline is missed, or that of each message at each
     /// group, as a table in that format; and whether the ceiling has to keep the deadline, not just the greatest latency.
     Budget {
@@ -85,11 +91,27 @@ pub enum Task {
         asked: Asked,
         options: Options,
     },
+    /// The best order of the groups for the targets that are wanted, as a table in that format, and whether the reasons why no order is better are told below it.
+    Order {
+        format: Format,
+        wanted: Wanted,
+        with_reasons: bool,
+        asked: Asked,
+        options: Options,
+    },
     /// The greatest latency with each value of one key of the text, or of two, as a table in that format; and whether a
     /// row is to speak of all times of issue from one value to the next.
     Sweep {
         format: Format,
         sweep: Sweep,
+        envelope: bool,
+        asked: Asked,
+        options: Options,
+    },
+    /// The greatest latency with each value of one key of the text, as an image of a curve; and whether a mark is to
+    /// speak of all times of issue from one value to the next.
+    Curve {
+        setting: Setting,
         envelope: bool,
         asked: Asked,
         options: Options,

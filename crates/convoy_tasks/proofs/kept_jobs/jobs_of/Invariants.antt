@@ -1,13 +1,13 @@
--- There is a row for each job that has ended so far.
+-- Each job that has ended so far was kept.
 use Rattle.std.proofs.Common.{take}
 use Rattle.convoy_streams.specs.Jobs.{ended_jobs}
 use Rattle.convoy_streams.specs.Splitting.{IsAfter}
 use Rattle.convoy_commands.specs.declared.limits.TheConstants.{LONGEST_JOB}
-use Rattle.convoy_tasks.specs.JobRows.{AreJobRows}
-use Rattle.convoy_tasks.proofs.job_row.rows_of.Given as goal
+use Rattle.convoy_tasks.specs.KeptJobs.{AreKeptJobs}
+use Rattle.convoy_tasks.proofs.kept_jobs.jobs_of.Given as goal
 
 abbrev pub invariant-loop-byte : goal.invariant-loop-byte
-invariant-loop-byte g l = record {
+invariant-loop-byte l = record {
   after : IsAfter LONGEST_JOB l.splitter (take l.byte-index l.text);
-  found : AreJobRows l.asked l.options (ended_jobs (take l.byte-index l.text)) l.rows.items;
+  kept : AreKeptJobs (ended_jobs (take l.byte-index l.text)) l.jobs.items;
 }
