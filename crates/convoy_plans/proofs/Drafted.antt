@@ -1,0 +1,131 @@
+-- What is in the draft of what is written.
+use Rattle.std.proofs.Common.{◌≡◌, ◌⊎◌, ℕ, ℤ, pos, int_le, nat_le, Bool, true, false, cond, List, [], ◌∷◌, ◌++◌, map, flat_map, sum_by, Option, Some, None, is_some, Result, Ok, Err, refl, sym, ap, ◌∙◌, inl, inr}
+use Rattle.convoy_lines.specs.Results.{◌>>=◌}
+use Rattle.convoy_draft.specs.declared.fault.Key.TheVariants.{Least, Delay}
+use Rattle.convoy_draft.specs.declared.fault.ScenarioFault.{ScenarioFault}
+use Rattle.convoy_draft.specs.declared.fault.ScenarioFault.TheVariants.{OverLimit}
+use Rattle.convoy_draft.specs.declared.fault.Limit.TheVariants as limits
+use Rattle.convoy_draft.specs.Draft.{Draft, DraftLink, DraftMessage}
+use Rattle.convoy_scenario.specs.Numbering.{scenario_of_draft}
+use Rattle.convoy_scenario.specs.Scenario.{Scenario}
+use Rattle.convoy_toml.specs.declared.links.TheConstants.{MOST_WRITTEN_LINKS}
+use Rattle.convoy_toml.specs.Links.{Bundle, count_of, links_of_bundle, links_of_bundles}
+use Rattle.convoy_toml.specs.Reading.{need_ranges, scenario_of_written}
+use Rattle.convoy_toml.specs.Shape.{WrittenLink, WrittenScenario}
+use Rattle.convoy_toml.specs.Times.{bundle_of, bundles_of, delay_or_greatest, draft_messages_of, draft_of_written, need_least, tick_of, whole_if_written}
+use Rattle.convoy_toml.specs.Ways.{link_along, with_least, ways_without_link}
+use Rattle.convoy_plans.proofs.Members.{In, in_first}
+
+pub after_ok : {A B : Type 0} (r : Result A ScenarioFault) (f : A → Result B ScenarioFault) (y : B) → (r >>= f) ≡ Ok y → (x : A) × (r ≡ Ok x) × (f x ≡ Ok y)
+after_ok (Ok x) f y e = (x, refl, e)
+after_ok (Err fault) f y e = absurd cc
+
+pub one_ok : {A : Type 0} (x y : A) → ◌≡◌ {A = Result A ScenarioFault} (Ok x) (Ok y) → x ≡ y
+one_ok x y e = cc
+
+-- ---- the draft of a scenario that is made
+pub record Made (written : WrittenScenario) (scenario : Scenario) : Type 0 where
+  pub draft : Draft
+  pub drafted : draft_of_written written ≡ Ok draft
+  pub given : scenario_of_draft draft ≡ Ok scenario
+
+pub made_of : (written : WrittenScenario) (scenario : Scenario) → scenario_of_written written ≡ Ok scenario → Made written scenario
+made_of written scenario e =
+    let d = after_ok (draft_of_written written) (λ draft. scenario_of_draft draft >>= λ made. need_ranges (is_some written.least) draft >>= λ u. Ok made) scenario e in
+    let s = after_ok (scenario_of_draft d.0) (λ made. need_ranges (is_some written.least) d.0 >>= λ u. Ok made) scenario d.2 in
+    let r = after_ok (need_ranges (is_some written.least) d.0) (λ u. Ok s.0) scenario s.2 in
+    let same : s.0 ≡ scenario = one_ok s.0 scenario r.2 in
+    record { draft = d.0; drafted = d.1; given = s.1 ∙ ap (λ made. Ok made) same }
+
+-- ---- what the least delay adds
+same_field : {Y : Type 0} (b : Bool) (f : Draft → Y) (x y : Draft) → f y ≡ f x → f (cond b x y) ≡ f x
+same_field true f x y e = refl
+same_field false f x y e = e
+
+link_kept : (b : Bool) (link : DraftLink) (x y : Draft) → In link x.links → In link y.links → In link (cond b x y).links
+link_kept true link x y h k = h
+link_kept false link x y h k = k
+
+kept_groups : (least : Option ℤ) (draft : Draft) → (with_least least draft).groups ≡ draft.groups
+kept_groups None draft = refl
+kept_groups (Some least) draft =
+    same_field (int_le least (pos 1)) (λ d. d.groups) draft (record draft { links = draft.links ++ map (link_along least draft.delay) (ways_without_link draft) }) refl
+
+kept_messages : (least : Option ℤ) (draft : Draft) → (with_least least draft).messages ≡ draft.messages
+kept_messages None draft = refl
+kept_messages (Some least) draft =
+    same_field (int_le least (pos 1)) (λ d. d.messages) draft (record draft { links = draft.links ++ map (link_along least draft.delay) (ways_without_link draft) }) refl
+
+kept_links : (least : Option ℤ) (draft : Draft) (link : DraftLink) → In link draft.links → In link (with_least least draft).links
+kept_links None draft link h = h
+kept_links (Some least) draft link h =
+    link_kept (int_le least (pos 1)) link draft (record draft { links = draft.links ++ map (link_along least draft.delay) (ways_without_link draft) }) h (in_first link draft.links _ h)
+
+-- ---- the draft of what is written
+pub record Drafted (written : WrittenScenario) (draft : Draft) : Type 0 where
+  pub tick : Option ℕ
+  pub tick_is : tick_of written ≡ Ok tick
+  pub messages_are : draft_messages_of tick written.messages ≡ Ok draft.messages
+  pub groups_are : draft.groups ≡ written.groups
+  pub bundles : List Bundle
+  pub bundles_are : bundles_of tick written.links ≡ Ok bundles
+  pub links_have : (link : DraftLink) → In link (flat_map links_of_bundle bundles) → In link draft.links
+
+few_links : (bundles : List Bundle) (links : List DraftLink) → links_of_bundles bundles ≡ Ok links → flat_map links_of_bundle bundles ≡ links
+few_links bundles links = by_test (nat_le (sum_by count_of bundles) MOST_WRITTEN_LINKS) where
+  by_test : (b : Bool) → ◌≡◌ {A = Result (List DraftLink) ScenarioFault} (cond b (Ok (flat_map links_of_bundle bundles)) (Err (OverLimit limits.Link))) (Ok links) → flat_map links_of_bundle bundles ≡ links
+  by_test true e = one_ok _ _ e
+  by_test false e = absurd cc
+
+abbrev timed : WrittenScenario → Option ℕ → Option ℤ → List DraftMessage → List Bundle → List DraftLink → Draft
+timed written tick delay messages bundles links = record {
+  time = written.time;
+  tick = tick;
+  delay = delay_or_greatest delay bundles;
+  groups = written.groups;
+  links = links;
+  messages = messages;
+  target_message = written.target_message;
+  target_group = written.target_group;
+}
+
+pub drafted_of : (written : WrittenScenario) (draft : Draft) → draft_of_written written ≡ Ok draft → Drafted written draft
+drafted_of written draft e =
+    let t = after_ok (tick_of written) _ draft e in
+    let d = after_ok (whole_if_written t.0 Delay written.delay) _ draft t.2 in
+    let l = after_ok (whole_if_written t.0 Least written.least) _ draft d.2 in
+    let m = after_ok (draft_messages_of t.0 written.messages) _ draft l.2 in
+    let b = after_ok (bundles_of t.0 written.links) _ draft m.2 in
+    let k = after_ok (links_of_bundles b.0) _ draft b.2 in
+    let n = after_ok (need_least written.time (delay_or_greatest d.0 b.0) l.0) _ draft k.2 in
+    let base : Draft = timed written t.0 d.0 m.0 b.0 k.0 in
+    let same : with_least l.0 base ≡ draft = one_ok _ _ n.2 in
+    let few : flat_map links_of_bundle b.0 ≡ k.0 = few_links b.0 k.0 k.1 in
+    record {
+      tick = t.0;
+      tick_is = t.1;
+      messages_are = m.1 ∙ ap (λ ms. Ok ms) (sym (kept_messages l.0 base) ∙ ap (λ (x : Draft). x.messages) same);
+      groups_are = ap (λ (x : Draft). x.groups) (sym same) ∙ kept_groups l.0 base;
+      bundles = b.0;
+      bundles_are = b.1;
+      links_have = λ link h.
+          let there : In link (with_least l.0 base).links = kept_links l.0 base link (rw (← few) h) in
+          rw (← same) there;
+    }
+
+-- ---- the links of a table
+pub bundle_in : (tick : Option ℕ) (links : List WrittenLink) (bundles : List Bundle) (link : WrittenLink) → bundles_of tick links ≡ Ok bundles → In link links
+    → (bundle : Bundle) × In bundle bundles × (bundle_of tick link ≡ Ok bundle)
+bundle_in tick [] bundles link e h = absurd h
+bundle_in tick (first ∷ links) bundles link e h =
+    let f = after_ok (bundle_of tick first) (λ b. bundles_of tick links >>= λ bs. Ok (b ∷ bs)) bundles e in
+    let o = after_ok (bundles_of tick links) (λ bs. Ok (f.0 ∷ bs)) bundles f.2 in
+    let same : f.0 ∷ o.0 ≡ bundles = one_ok _ _ o.2 in
+    by_place f.0 o.0 f.1 same h (bundle_in tick links o.0 link o.1) where
+      by_place : (b : Bundle) (bs : List Bundle) → bundle_of tick first ≡ Ok b → b ∷ bs ≡ bundles → (link ≡ first) ⊎ In link links
+          → (In link links → (bundle : Bundle) × In bundle bs × (bundle_of tick link ≡ Ok bundle))
+          → (bundle : Bundle) × In bundle bundles × (bundle_of tick link ≡ Ok bundle)
+      by_place b bs is same (inl here) more = (b, rw (← same) (inl refl), rw here is)
+      by_place b bs is same (inr there) more =
+          let r = more there in
+          (r.0, rw (← same) (inr r.1), r.2)
