@@ -1,0 +1,174 @@
+-- The scenarios of a plan have the same messages and the same target, wherever the groups are.
+use Rattle.std.proofs.Common.{◌≡◌, ℕ, ℤ, pos, int_le, suc, Bool, true, false, cond, List, [], ◌∷◌, ◌++◌, length, map, Option, Some, None, Result, Ok, Err, refl, sym, ap, ap₂, subst, ◌∙◌}
+use Rattle.std.specs.Option.{is_some}
+use Rattle.std.specs.Result.{result_and}
+use Rattle.std.proofs.lemmas.List.{length-map}
+use Rattle.convoy_draft.specs.declared.fault.Key.TheVariants.{Delay, Least}
+use Rattle.convoy_draft.specs.declared.fault.ScenarioFault.{ScenarioFault}
+use Rattle.convoy_draft.specs.Checks.{checks, judge}
+use Rattle.convoy_draft.specs.Draft.{Draft, DraftLink, DraftMessage}
+use Rattle.convoy_toml.specs.Results.{◌>>=◌}
+use Rattle.convoy_scenario.specs.Numbering.{message_of, message_place, place, scenario_of, scenario_of_draft}
+use Rattle.convoy_scenario.specs.Scenario.{Message, Scenario}
+use Rattle.convoy_scenario.specs.ScenarioLaws.{DraftsGiveScenarios}
+use Rattle.convoy_scenario.specs.WellFormed.{IsScenario}
+use Rattle.convoy_toml.specs.Links.{Bundle, links_of_bundles}
+use Rattle.convoy_toml.specs.Reading.{need_ranges}
+use Rattle.convoy_toml.specs.Shape.{WrittenMessage, WrittenScenario}
+use Rattle.convoy_toml.specs.Times.{bundles_of, delay_or_greatest, draft_message_of, draft_messages_of, draft_of_written, need_least, tick_of, whole_if_written}
+use Rattle.convoy_toml.specs.Ways.{link_along, ways_without_link, with_least}
+use Rattle.convoy_toml.proofs.FinerDrafts.{after_ok, same_ok}
+use Rattle.convoy_plans.specs.Placements.{groups_in, message_in, scenario_at, written_at}
+use Rattle.convoy_plans.specs.Plans.{Plan}
+use Rattle.convoy_best_order.specs.declared.wanted.Wanted.{Wanted}
+use Rattle.convoy_best_order.specs.Targets.{targets_of}
+
+-- ---- the draft of what is written, step by step
+abbrev base_of : WrittenScenario → Option ℕ → Option ℤ → List DraftMessage → List Bundle → List DraftLink → Draft
+base_of w tick written messages bundles links = record {
+  time = w.time;
+  tick = tick;
+  delay = delay_or_greatest written bundles;
+  groups = w.groups;
+  links = links;
+  messages = messages;
+  target_message = w.target_message;
+  target_group = w.target_group;
+}
+
+abbrev after_links : WrittenScenario → Option ℕ → Option ℤ → Option ℤ → List DraftMessage → List Bundle → List DraftLink → Result Draft ScenarioFault
+after_links w tick written least messages bundles links =
+    need_least w.time (delay_or_greatest written bundles) least >>= λ _. Ok (with_least least (base_of w tick written messages bundles links))
+
+abbrev after_bundles : WrittenScenario → Option ℕ → Option ℤ → Option ℤ → List DraftMessage → List Bundle → Result Draft ScenarioFault
+after_bundles w tick written least messages bundles = links_of_bundles bundles >>= after_links w tick written least messages bundles
+
+abbrev after_messages : WrittenScenario → Option ℕ → Option ℤ → Option ℤ → List DraftMessage → Result Draft ScenarioFault
+after_messages w tick written least messages = bundles_of tick w.links >>= after_bundles w tick written least messages
+
+abbrev after_least : WrittenScenario → Option ℕ → Option ℤ → Option ℤ → Result Draft ScenarioFault
+after_least w tick written least = draft_messages_of tick w.messages >>= after_messages w tick written least
+
+abbrev after_delay : WrittenScenario → Option ℕ → Option ℤ → Result Draft ScenarioFault
+after_delay w tick written = whole_if_written tick Least w.least >>= after_least w tick written
+
+abbrev after_tick : WrittenScenario → Option ℕ → Result Draft ScenarioFault
+after_tick w tick = whole_if_written tick Delay w.delay >>= after_delay w tick
+
+-- the draft has these messages, and the rest as it is written
+pub record IsDraftOf (w : WrittenScenario) (messages : List DraftMessage) (draft : Draft) : Type 0 where
+  pub groups : draft.groups ≡ w.groups
+  pub has : draft.messages ≡ messages
+  pub target_message : draft.target_message ≡ w.target_message
+  pub target_group : draft.target_group ≡ w.target_group
+
+-- a least delay changes links alone
+keeps : (w : WrittenScenario) (base : Draft) (least : Option ℤ) → IsDraftOf w base.messages base → IsDraftOf w base.messages (with_least least base)
+keeps w base None is = is
+keeps w base (Some least) is = by_test (int_le least (pos 1)) (base.links ++ map (link_along least base.delay) (ways_without_link base)) where
+  by_test : (b : Bool) (links : List DraftLink) → IsDraftOf w base.messages (cond b base (record base { links = links }))
+  by_test true links = is
+  by_test false links = record { groups = is.groups; has = is.has; target_message = is.target_message; target_group = is.target_group }
+
+drafted : (w : WrittenScenario) (tick : Option ℕ) (draft : Draft) → after_tick w tick ≡ Ok draft
+    → (messages : List DraftMessage) × (draft_messages_of tick w.messages ≡ Ok messages) × IsDraftOf w messages draft
+drafted w tick draft made =
+    let delay = after_ok (whole_if_written tick Delay w.delay) (after_delay w tick) draft made in
+    let least = after_ok (whole_if_written tick Least w.least) (after_least w tick delay.0) draft delay.2 in
+    let messages = after_ok (draft_messages_of tick w.messages) (after_messages w tick delay.0 least.0) draft least.2 in
+    let bundles = after_ok (bundles_of tick w.links) (after_bundles w tick delay.0 least.0 messages.0) draft messages.2 in
+    let links = after_ok (links_of_bundles bundles.0) (after_links w tick delay.0 least.0 messages.0 bundles.0) draft bundles.2 in
+    let base : Draft = base_of w tick delay.0 messages.0 bundles.0 links.0 in
+    let last = after_ok (need_least w.time (delay_or_greatest delay.0 bundles.0) least.0) (λ _. Ok (with_least least.0 base)) draft links.2 in (
+      messages.0,
+      messages.1,
+      subst (IsDraftOf w messages.0) (same_ok (with_least least.0 base) draft last.2)
+          (keeps w base least.0 (record { groups = refl; has = refl; target_message = refl; target_group = refl })),
+    )
+
+-- ---- the scenario of a placement
+-- the scenario has these messages of the plan
+pub record IsMade (plan : Plan) (tick : ℕ) (scenario : Scenario) (messages : List DraftMessage) : Type 0 where
+  pub is : draft_messages_of (Some tick) (map (message_in plan) plan.written.messages) ≡ Ok messages
+  pub multicasts : scenario.multicasts ≡ map (message_of (groups_in plan)) messages
+  pub target_message : scenario.target_message ≡ message_place plan.written.target_message messages
+  pub target_group : scenario.target_group ≡ place plan.written.target_group (groups_in plan)
+
+and_ok : {A : Type 0} {B : Type 0} (r : Result B ScenarioFault) (x y : A) → result_and r (Ok x) ≡ Ok y → x ≡ y
+and_ok (Ok b) x y e = same_ok x y e
+and_ok (Err fault) x y e = absurd cc
+
+abbrev ranged : WrittenScenario → Draft → Scenario → Result Scenario ScenarioFault
+ranged w draft scenario = need_ranges (is_some w.least) draft >>= λ _. Ok scenario
+
+-- the draft of a scenario that is made
+module _ (plan : Plan) (placement : List ℕ) (scenario : Scenario) (made : scenario_at plan placement ≡ Ok scenario) where
+  abbrev w : WrittenScenario
+  w = written_at plan placement
+
+  pub of_draft : (draft : Draft) × (draft_of_written w ≡ Ok draft) × (scenario_of_draft draft ≡ Ok scenario)
+  of_draft =
+      let draft = after_ok (draft_of_written w) (λ d. scenario_of_draft d >>= ranged w d) scenario made in
+      let here = after_ok (scenario_of_draft draft.0) (ranged w draft.0) scenario draft.2 in
+      let last = after_ok (need_ranges (is_some w.least) draft.0) (λ _. Ok here.0) scenario here.2 in
+      (draft.0, draft.1, here.1 ∙ last.2)
+
+  pub well_made : DraftsGiveScenarios → IsScenario scenario
+  well_made given = given of_draft.0 scenario of_draft.2
+
+  pub is_made : (tick : ℕ) → plan.tick ≡ Some tick → (messages : List DraftMessage) × IsMade plan tick scenario messages
+  is_made tick long =
+      let ticked : tick_of w ≡ Ok (Some tick) = ap (λ (t : Option ℕ). tick_of (record w { tick = t })) long in
+      let next = after_ok (tick_of w) (after_tick w) of_draft.0 of_draft.1 in
+      let same : next.0 ≡ Some tick = same_ok next.0 (Some tick) (sym next.1 ∙ ticked) in
+      let parts = drafted w (Some tick) of_draft.0 (subst (λ (t : Option ℕ). after_tick w t ≡ Ok of_draft.0) same next.2) in
+      let is = and_ok (judge (checks of_draft.0)) (scenario_of of_draft.0) scenario of_draft.2 in (
+        parts.0,
+        record {
+          is = parts.1;
+          multicasts = sym (ap (λ (s : Scenario). s.multicasts) is) ∙ ap₂ (λ (groups : List (List ℕ)) (ms : List DraftMessage). map (message_of groups) ms) parts.2.groups parts.2.has;
+          target_message = sym (ap (λ (s : Scenario). s.target_message) is) ∙ ap₂ message_place parts.2.target_message parts.2.has;
+          target_group = sym (ap (λ (s : Scenario). s.target_group) is) ∙ ap₂ place parts.2.target_group parts.2.groups;
+        },
+      )
+
+-- ---- two placements
+-- the two have the same messages and the same target
+pub record Agree (scenario other : Scenario) : Type 0 where
+  pub multicasts : other.multicasts ≡ scenario.multicasts
+  pub target_message : other.target_message ≡ scenario.target_message
+  pub target_group : other.target_group ≡ scenario.target_group
+
+pub agree : (plan : Plan) (tick : ℕ) (first second : List ℕ) (scenario other : Scenario) → plan.tick ≡ Some tick
+    → scenario_at plan first ≡ Ok scenario → scenario_at plan second ≡ Ok other → Agree scenario other
+agree plan tick first second scenario other long made other_made =
+    let here = is_made plan first scenario made tick long in
+    let there = is_made plan second other other_made tick long in
+    let same : there.0 ≡ here.0 = same_ok there.0 here.0 (sym there.1.is ∙ here.1.is) in
+    record {
+      multicasts = there.1.multicasts ∙ ap (map (message_of (groups_in plan))) same ∙ sym here.1.multicasts;
+      target_message = there.1.target_message ∙ ap (message_place plan.written.target_message) same ∙ sym here.1.target_message;
+      target_group = there.1.target_group ∙ sym here.1.target_group;
+    }
+
+-- they have the same targets
+pub same_targets : (wanted : Wanted) (deadlines : List (Option ℕ)) (scenario other : Scenario) → Agree scenario other
+    → targets_of wanted deadlines other ≡ targets_of wanted deadlines scenario
+same_targets wanted deadlines scenario other is =
+    ap (λ (ms : List Message). targets_of wanted deadlines (record other { multicasts = ms })) is.multicasts
+    ∙ ap₂ (λ (m g : ℕ). targets_of wanted deadlines (record scenario { target_message = m; target_group = g })) is.target_message is.target_group
+
+-- ---- as many messages as are written
+as_many : (tick : Option ℕ) (messages : List WrittenMessage) (made : List DraftMessage) → draft_messages_of tick messages ≡ Ok made → length made ≡ length messages
+as_many tick [] made e = ap length (sym (same_ok [] made e))
+as_many tick (message ∷ messages) made e =
+    let here = after_ok (draft_message_of tick message) (λ m. draft_messages_of tick messages >>= λ ms. Ok (m ∷ ms)) made e in
+    let others = after_ok (draft_messages_of tick messages) (λ ms. Ok (here.0 ∷ ms)) made here.2 in
+    ap length (sym (same_ok (here.0 ∷ others.0) made others.2)) ∙ ap suc (as_many tick messages others.0 others.1)
+
+pub message_count : (plan : Plan) (tick : ℕ) (placement : List ℕ) (scenario : Scenario) → plan.tick ≡ Some tick → scenario_at plan placement ≡ Ok scenario
+    → length scenario.multicasts ≡ length plan.written.messages
+message_count plan tick placement scenario long made =
+    let here = is_made plan placement scenario made tick long in
+    ap length here.1.multicasts ∙ length-map here.0 (message_of (groups_in plan)) ∙ as_many (Some tick) (map (message_in plan) plan.written.messages) here.0 here.1.is
+    ∙ length-map plan.written.messages (message_in plan)

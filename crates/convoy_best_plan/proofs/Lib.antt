@@ -1,0 +1,9 @@
+pub mod Lower
+pub mod Found
+pub mod Placing
+pub mod LastListed
+pub mod Commits
+pub mod Agreeing
+pub mod Summing
+pub mod LateAnyhow
+pub mod Passing

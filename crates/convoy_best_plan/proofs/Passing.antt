@@ -1,0 +1,61 @@
+-- All placements that have some sites are passed once those with one more site of a group are.
+use Rattle.std.proofs.Common.{◌≡◌, ◌↔◌, ℕ, zero, suc, ◌+◌, ◌<◌, ◌≤◌, ◌==◌, nat_lt, Bool, true, false, List, [], ◌∷◌, length, map, get_or, set, Option, Some, inl, inr, refl, sym, ap, subst, ◌∙◌, arith}
+use Rattle.std.proofs.lemmas.Bool.{eqb-true, false≢true, ltb-false, ltb-true, or_cases, true≢false}
+use Rattle.std.proofs.lemmas.List.{length-map}
+use Rattle.convoy_plans.specs.Placements.{Completes, IsPlacement, site_at}
+use Rattle.convoy_plans.specs.Plans.{Plan, has, sites_of}
+use Rattle.convoy_best_order.specs.declared.wanted.Wanted.{Wanted}
+use Rattle.convoy_best_plan.specs.declared.planned.Planned.{Planned}
+use Rattle.convoy_best_plan.specs.Standings.{ArePassed, HasFallen, IsPassed}
+use Rattle.convoy_best_plan.proofs.Found.{passed_after}
+use Rattle.convoy_best_plan.proofs.Placing.{completes_more, one_placement}
+
+-- all placements are passed that have the group at one of its first sites
+abbrev pub PassedUpTo : Wanted → Plan → Option Planned → List (Option ℕ) → ℕ → ℕ → Type 0
+PassedUpTo wanted plan chosen sites group count =
+    (placement : List ℕ) → IsPlacement plan placement → Completes placement sites
+    → (k : ℕ) → k < count → get_or (sites_of plan group) k 0 ≡ site_at placement group → IsPassed wanted plan chosen placement
+
+pub none_yet : (wanted : Wanted) (plan : Plan) (chosen : Option Planned) (sites : List (Option ℕ)) (group : ℕ) → PassedUpTo wanted plan chosen sites group 0
+none_yet wanted plan chosen sites group placement is all k below at = absurd (omega (arith, below))
+
+pub one_more_site : (wanted : Wanted) (plan : Plan) (old new : Option Planned) (sites : List (Option ℕ)) (group i site : ℕ) → group < length sites
+    → get_or (sites_of plan group) i 0 ≡ site → HasFallen old new → PassedUpTo wanted plan old sites group i → ArePassed wanted plan new (set sites group (Some site))
+    → PassedUpTo wanted plan new sites group (i + 1)
+one_more_site wanted plan old new sites group i site within here fallen before next placement is all k below at = by_place (nat_lt k i) refl where
+  by_place : (b : Bool) → nat_lt k i ≡ b → IsPassed wanted plan new placement
+  by_place true less = passed_after wanted plan old new placement fallen (before placement is all k (ltb-true k i less) at)
+  by_place false past =
+      let low = ltb-false k i past in
+      let same : k ≡ i = omega (arith, low, below) in
+      next placement is (completes_more placement sites group site within all (sym at ∙ ap (λ n. get_or (sites_of plan group) n 0) same ∙ here))
+
+-- where a number stands
+place_of : (ns : List ℕ) (s : ℕ) → has s ns ≡ true → (k : ℕ) × (k < length ns) × (get_or ns k 0 ≡ s)
+place_of [] s some = absurd (false≢true some)
+place_of (n ∷ ns) s some = elim (or_cases (n == s) (has s ns) some) [
+  | inl same ↦ (zero, omega arith, eqb-true n s same)
+  | inr later ↦ let found = place_of ns s later in (suc found.0, omega arith, found.2)
+]
+
+pub all_sites : (wanted : Wanted) (plan : Plan) (chosen : Option Planned) (sites : List (Option ℕ)) (group count : ℕ) → group < length plan.housed
+    → length (sites_of plan group) ≤ count → PassedUpTo wanted plan chosen sites group count → ArePassed wanted plan chosen sites
+all_sites wanted plan chosen sites group count known many passed placement is all = elim (is.housed group) [
+  | inl home ↦ let found = place_of (sites_of plan group) (site_at placement group) home in passed placement is all found.0 (omega (arith, found.1, many)) found.2
+  | inr past ↦ absurd (omega (arith, past, known))
+]
+
+-- ---- where each group has a site
+module _ (wanted : Wanted) (plan : Plan) (chosen : Option Planned) (sites : List (Option ℕ)) (placement : List ℕ) (placed : map (λ site. Some site) placement ≡ sites)
+    (long : length sites ≡ length plan.housed) where
+  one : (other : List ℕ) → IsPlacement plan other → Completes other sites → other ≡ placement
+  one other is all =
+      one_placement placement other (subst (Completes other) (sym placed) all)
+      (let whole = is.whole in let same = ap length placed in let mapped = length-map placement (λ site. Some site) in omega (arith, whole, same, mapped, long))
+
+  pub passed_alone : IsPassed wanted plan chosen placement → ArePassed wanted plan chosen sites
+  passed_alone here other is all = subst (IsPassed wanted plan chosen) (sym (one other is all)) here
+
+  pub passed_none : (test : Bool) → (test ≡ true) ↔ IsPlacement plan placement → test ≡ false → ArePassed wanted plan chosen sites
+  passed_none test tells not_placed other is all =
+      absurd (true≢false (sym (tells.1 (subst (IsPlacement plan) (one other is all) is)) ∙ not_placed))

@@ -1,0 +1,62 @@
+-- The best choice of a plan: a placement of its groups at its sites with an order of the groups, and what no choice is below.
+use Rattle.std.specs.Prelude.{◌≡◌, ℕ, List, Option, Some, None, Ok, All}
+use Rattle.convoy_scenario.specs.Scenario.{Scenario}
+use Rattle.convoy_plans.specs.Placements.{IsPlacement, scenario_at}
+use Rattle.convoy_plans.specs.Plans.{Plan}
+use Rattle.convoy_branch.specs.Options.{Settings}
+use Rattle.convoy_best_order.specs.declared.excess.Excess.{Excess}
+use Rattle.convoy_best_order.specs.declared.target.Target.{Target}
+use Rattle.convoy_best_order.specs.declared.wanted.Wanted.{Wanted}
+use Rattle.convoy_best_order.specs.Best.{IsBest}
+use Rattle.convoy_best_order.specs.OrderLaws.{IsExceededIn}
+use Rattle.convoy_best_order.specs.Orders.{IsOrder}
+use Rattle.convoy_best_order.specs.Targets.{MayBeTarget, targets_of}
+use Rattle.convoy_best_plan.specs.declared.floor.Floor.{Floor}
+use Rattle.convoy_best_plan.specs.declared.planned.Planned.{Planned}
+use Rattle.convoy_best_plan.specs.Floors.{IsNoHigher, excess_at}
+use Rattle.convoy_best_plan.specs.Totals.{total_of}
+
+-- THE FLOOR
+-- in each order of the groups some schedule of some of these targets exceeds its limit by so much, or by more
+abbrev pub IsExceeded : Scenario → List Target → Excess → Type 0
+IsExceeded scenario targets least = (order : List ℕ) → IsOrder scenario order → IsExceededIn scenario targets order least
+
+-- the targets of a scenario of the plan
+abbrev pub targets_by : Wanted → Plan → Scenario → List Target
+targets_by wanted plan scenario = targets_of wanted plan.deadlines scenario
+
+-- where the placement has a scenario, no order is below the floor there
+abbrev pub IsNotBelow : Wanted → Plan → Floor → List ℕ → Type 0
+IsNotBelow wanted plan floor placement =
+    (scenario : Scenario) → scenario_at plan placement ≡ Ok scenario
+    → IsExceeded scenario (targets_by wanted plan scenario) (excess_at floor (total_of scenario))
+
+-- no scenario is there for the placement
+abbrev pub HasNoScenario : Plan → List ℕ → Type 0
+HasNoScenario plan placement = (scenario : Scenario) → scenario_at plan placement ≡ Ok scenario → ⊥
+
+-- THE CHOICE
+-- The placement is one of the plan and has that scenario, with the best order of its groups for the targets that are wanted there.
+pub record IsChoice (settings : Settings) (wanted : Wanted) (plan : Plan) (planned : Planned) : Type 0 where
+  pub placement : IsPlacement plan planned.placement.items
+  pub made : scenario_at plan planned.placement.items ≡ Ok planned.scenario
+  pub targets : planned.targets.items ≡ targets_by wanted plan planned.scenario
+  pub lawful : All (MayBeTarget planned.scenario) planned.targets.items
+  pub best : IsBest settings planned.scenario planned.targets.items planned.best
+  pub total : planned.total ≡ total_of planned.scenario
+
+-- what it keeps: the greatest excess in its order at most, and its total
+abbrev pub reach_of : Planned → Floor
+reach_of planned = record { least = planned.best.most; ties = planned.total }
+
+-- THE BEST PLAN
+-- It is a choice of the plan, and no placement has an order that is below its floor. So where the floor is what the choice keeps, no choice is better: so says the law `NoChoiceIsBetter`.
+pub record IsBestPlan (settings : Settings) (wanted : Wanted) (plan : Plan) (planned : Planned) : Type 0 where
+  pub choice : IsChoice settings wanted plan planned
+  pub floor : IsNoHigher planned.floor (reach_of planned)
+  pub none_below : (placement : List ℕ) → IsPlacement plan placement → IsNotBelow wanted plan planned.floor placement
+
+-- what may be answered: the best plan, or that no placement has a scenario
+abbrev pub IsPlanned : Settings → Wanted → Plan → Option Planned → Type 0
+IsPlanned settings wanted plan (Some planned) = IsBestPlan settings wanted plan planned
+IsPlanned settings wanted plan None = (placement : List ℕ) → IsPlacement plan placement → HasNoScenario plan placement

@@ -1,0 +1,63 @@
+-- How a search over placements stands: the best choice so far, and which placements are passed.
+use Rattle.std.specs.Prelude.{ℕ, ⊤, if◌then◌else◌, List, Option, Some, None, is_none}
+use Rattle.std.specs.List.{count_by}
+use Rattle.convoy_scenario.specs.Scenario.{Scenario}
+use Rattle.convoy_plans.specs.Placements.{Completes, IsPlacement}
+use Rattle.convoy_plans.specs.Plans.{Plan}
+use Rattle.convoy_branch.specs.Options.{Settings}
+use Rattle.convoy_best_order.specs.declared.best.Best.{Best}
+use Rattle.convoy_best_order.specs.declared.target.Target.{Target}
+use Rattle.convoy_best_order.specs.declared.wanted.Wanted.{Wanted}
+use Rattle.convoy_best_order.specs.Best.{IsBest}
+use Rattle.convoy_best_plan.specs.declared.planned.Planned.{Planned}
+use Rattle.convoy_best_plan.specs.BestPlans.{HasNoScenario, IsChoice, IsExceeded, IsNotBelow, reach_of}
+use Rattle.convoy_best_plan.specs.Floors.{IsNoHigher, excess_at, is_lower, lower}
+use Rattle.convoy_best_plan.specs.Totals.{total_of}
+
+-- It is a choice, found with some settings, and its floor is no higher than what it keeps.
+pub record IsFound (wanted : Wanted) (plan : Plan) (planned : Planned) : Type 0 where
+  pub settings : Settings
+  pub choice : IsChoice settings wanted plan planned
+  pub floor : IsNoHigher planned.floor (reach_of planned)
+
+-- the best choice so far, if there is one, is one
+abbrev pub IsStanding : Wanted → Plan → Option Planned → Type 0
+IsStanding wanted plan None = ⊤
+IsStanding wanted plan (Some planned) = IsFound wanted plan planned
+
+-- a choice that there was is no lower than the one that there is
+abbrev pub HasFallen : Option Planned → Option Planned → Type 0
+HasFallen None next = ⊤
+HasFallen (Some planned) None = ⊥
+HasFallen (Some planned) (Some next) = IsNoHigher next.floor planned.floor
+
+-- the placement is passed: it is not below the floor, or where there is no choice yet it has no scenario
+abbrev pub IsPassed : Wanted → Plan → Option Planned → List ℕ → Type 0
+IsPassed wanted plan None placement = HasNoScenario plan placement
+IsPassed wanted plan (Some planned) placement = IsNotBelow wanted plan planned.floor placement
+
+-- all placements that have these sites are passed
+abbrev pub ArePassed : Wanted → Plan → Option Planned → List (Option ℕ) → Type 0
+ArePassed wanted plan chosen sites =
+    (placement : List ℕ) → IsPlacement plan placement → Completes placement sites → IsPassed wanted plan chosen placement
+
+-- how many groups have no site yet
+abbrev pub left_of : List (Option ℕ) → ℕ
+left_of sites = count_by is_none sites
+
+-- the better of a choice that there may be and one more, which is the one that keeps the lower reach; its floor is the lower of both
+abbrev pub better : Option Planned → Planned → Planned
+better None found = found
+better (Some planned) found =
+    if is_lower (reach_of found) (reach_of planned)
+    then record found { floor = lower planned.floor found.floor }
+    else record planned { floor = lower planned.floor found.floor }
+
+-- some search with some settings found that this is the best order for these targets
+abbrev pub IsBestBySome : Scenario → List Target → Best → Type 0
+IsBestBySome scenario targets best = (settings : Settings) × IsBest settings scenario targets best
+
+-- no order of the groups is better than that choice, if there is one
+abbrev pub IsOutdone : Option Planned → Scenario → List Target → Type 0
+IsOutdone None scenario targets = ⊥
+IsOutdone (Some planned) scenario targets = IsExceeded scenario targets (excess_at (reach_of planned) (total_of scenario))

@@ -1,0 +1,53 @@
+//! Whether all placements that have some sites are passed at once.
+
+ghost use Rattle.std.specs.Prelude.{◌≡◌, Some, IsTrue};
+ghost use Rattle.convoy_best_order.specs.declared.wanted.Wanted.{Wanted};
+ghost use Rattle.convoy_best_plan.specs.Standings.{ArePassed, IsFound, IsStanding};
+
+use super::leaves::is_late_anyhow;
+use super::planned::Planned;
+use convoy_orders::relisted_laws::{
+    relisted_drafts_are_renumbered, relisted_drafts_give_scenarios,
+};
+use convoy_plans::Plan;
+use convoy_plans::plan_laws::{messages_are_of_plans, ranges_are_of_sites};
+use convoy_scenario::scenario_laws::{drafts_give_scenarios, scenarios_have_drafts};
+use convoy_sim::protocol_laws::delivered_after_commit;
+
+/// Whether no placement that has these sites is better than the best choice so far, as some target is too late by its
+/// commit alone. Nothing is known of plans whose ticks have no length.
+pub(crate) fn is_cut(plan: &Plan, chosen: &Option<Planned>, sites: &[Option<usize>]) -> bool
+    ensures { (wanted : Wanted) → IsStanding wanted plan.now chosen.now → IsTrue result
+        → ArePassed wanted plan.now chosen.now sites.now }
+{
+    match chosen {
+        None => false,
+        Some(planned) => is_outdone(plan, planned, sites),
+    }
+}
+
+/// The same of a choice that there is.
+fn is_outdone(plan: &Plan, planned: &Planned, sites: &[Option<usize>]) -> bool
+    ensures { (wanted : Wanted) → IsFound wanted plan.now planned.now → IsTrue result
+        → ArePassed wanted plan.now (Some planned.now) sites.now }
+{
+    scenarios_have_drafts();
+    drafts_give_scenarios();
+    relisted_drafts_give_scenarios();
+    relisted_drafts_are_renumbered();
+    delivered_after_commit();
+    ranges_are_of_sites();
+    messages_are_of_plans();
+    // A plan is well formed.
+    let _count = plan.group_count();
+    match plan.tick() {
+        None => false,
+        Some(_) => is_late_anyhow(
+            plan,
+            &planned.scenario,
+            sites,
+            &planned.targets,
+            planned.reach(),
+        ),
+    }
+}

@@ -1,0 +1,23 @@
+//! The best choice of a plan: at which sites its groups are to be, and in which order they are to be listed. Placements are
+//! searched one group after the other; where no placement that has the sites so far can be better than the best choice so
+//! far, none of them is looked at.
+#![tactic(auto)]
+
+pub use floor::Floor;
+pub use planned::Planned;
+pub use planning::best_plan;
+
+pub mod choice_laws;
+mod cutting;
+mod excluding;
+mod floor;
+mod hints;
+mod judging;
+mod last;
+mod leaves;
+mod planned;
+mod planning;
+mod searching;
+mod standing;
+mod totals;
+mod visiting;

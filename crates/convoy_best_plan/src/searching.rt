@@ -1,0 +1,139 @@
+//! The search over placements, one group after the other.
+
+ghost use Rattle.std.specs.Prelude.{◌≡◌, ◌<◌, ◌≤◌, ◌∷◌, ℕ, List, length, slice_get, slice_set, map, Some, None, IfOk, IfSome, IfNone};
+ghost use Rattle.convoy_plans.specs.Placements.{IsPlacement};
+ghost use Rattle.convoy_best_plan.specs.Standings.{ArePassed, HasFallen, IsStanding, left_of};
+
+use super::cutting::is_cut;
+use super::standing::Standing;
+use super::visiting::visit;
+use convoy_best_order::Wanted;
+use convoy_branch::Options;
+use convoy_commands::Watch;
+use convoy_plans::{Plan, is_placement};
+use std::alloc::{AllocError, Global};
+use std::sync::Wait;
+use std::thread::Threads;
+
+/// Searches all placements that have these sites, where at most so many groups have none yet. Fails where memory runs
+/// out, and else never.
+pub(crate) fn search_below<R: Threads + Wait + Sync, W: Watch + Sync>(
+    rt: &R,
+    alloc: Global,
+    plan: &Plan,
+    wanted: Wanted,
+    left: usize,
+    sites: &[Option<usize>],
+    standing: Standing,
+    options: &Options,
+    watches: &[W],
+) -> Result<Standing, AllocError>
+    requires watched { 0 < length watches.now }
+    requires long { length sites.now ≡ length plan.now.written.groups }
+    requires left { left_of sites.now ≤ left }
+    requires standing { IsStanding wanted plan.now standing.chosen }
+    ensures standing { IfOk result (λ next. IsStanding wanted plan.now next.chosen) }
+    ensures fallen { IfOk result (λ next. HasFallen standing.chosen next.chosen) }
+    ensures passed { IfOk result (λ next. ArePassed wanted plan.now next.chosen sites.now) }
+{
+    let cut = is_cut(plan, &standing.chosen, sites);
+    if cut {
+        return Ok(standing);
+    }
+    let group = match next_group(sites) {
+        Some(group) => group,
+        None => return visit_placed(rt, alloc, plan, wanted, sites, standing, options, watches),
+    };
+    let homes = plan.sites_of(group);
+    let mut standing = standing;
+    for site in homes {
+        let more = with_site(alloc, sites, group, *site)?;
+        let next = search_below(
+            rt,
+            alloc,
+            plan,
+            wanted,
+            left - 1,
+            &more,
+            standing,
+            options,
+            watches,
+        )?;
+        standing = next;
+    }
+    Ok(standing)
+}
+
+/// The first group that has no site yet.
+fn next_group(sites: &[Option<usize>]) -> Option<usize>
+    ensures some { IfSome result (λ group. slice_get sites.now group ≡ Some None) }
+    ensures none { IfNone result (left_of sites.now ≡ 0) }
+{
+    for group in 0..sites.len() {
+        if sites[group].is_none() {
+            return Some(group);
+        }
+    }
+    None
+}
+
+/// The sites with that of one more group.
+fn with_site(
+    alloc: Global,
+    sites: &[Option<usize>],
+    group: usize,
+    site: usize,
+) -> Result<Vec<Option<usize>>, AllocError>
+    requires { group < length sites.now }
+    ensures { IfOk result (λ more. more.items ≡ slice_set sites.now group (Some site)) }
+{
+    let mut more = Vec::from_slice(alloc, sites)?;
+    more[group] = Some(site);
+    Ok(more)
+}
+
+/// Looks at the placement that has these sites, where each group has one.
+fn visit_placed<R: Threads + Wait + Sync, W: Watch + Sync>(
+    rt: &R,
+    alloc: Global,
+    plan: &Plan,
+    wanted: Wanted,
+    sites: &[Option<usize>],
+    standing: Standing,
+    options: &Options,
+    watches: &[W],
+) -> Result<Standing, AllocError>
+    requires watched { 0 < length watches.now }
+    requires long { length sites.now ≡ length plan.now.written.groups }
+    requires all { left_of sites.now ≡ 0 }
+    requires standing { IsStanding wanted plan.now standing.chosen }
+    ensures standing { IfOk result (λ next. IsStanding wanted plan.now next.chosen) }
+    ensures fallen { IfOk result (λ next. HasFallen standing.chosen next.chosen) }
+    ensures passed { IfOk result (λ next. ArePassed wanted plan.now next.chosen sites.now) }
+{
+    // A plan is well formed.
+    let _count = plan.group_count();
+    let placement = placement_of(alloc, sites)?;
+    let placed = is_placement(plan, &placement);
+    if !placed {
+        return Ok(standing);
+    }
+    visit(
+        rt, alloc, plan, wanted, placement, standing, options, watches,
+    )
+}
+
+/// The site of each group, where each has one.
+fn placement_of(alloc: Global, sites: &[Option<usize>]) -> Result<Vec<usize>, AllocError>
+    requires { left_of sites.now ≡ 0 }
+    ensures { IfOk result (λ placement. map (λ site. Some site) placement.items ≡ sites.now) }
+{
+    let mut placement = Vec::new(alloc);
+    for site in sites {
+        match site {
+            Some(site) => placement.push(*site)?,
+            None => unreachable!(),
+        }
+    }
+    Ok(placement)
+}
