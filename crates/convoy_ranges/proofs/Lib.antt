@@ -1,0 +1,9 @@
+pub mod Chains
+pub mod CellsRead
+pub mod NameTexts
+pub mod Linked
+pub mod Seen
+pub mod Pairing
+pub mod Safe
+pub mod Covering
+pub mod Told
