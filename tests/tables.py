@@ -36,12 +36,14 @@ def value_of(value):
 
 
 def text_of(table):
-    """A text of the scenario that a table has, as a reader of TOML gives it."""
-    lines = [f"{key} = {value_of(value)}" for key, value in table.items() if key not in ("multicast", "link", "target")]
-    for key in ("multicast", "link"):
+    """A text of the scenario, or of the plan, that a table has, as a reader of TOML gives it."""
+    lines = [f"{key} = {value_of(value)}" for key, value in table.items() if key not in ("group", "multicast", "link", "target")]
+    for key in ("group", "multicast", "link"):
         for each in table.get(key, []):
             lines += ["", f"[[{key}]]", *(f"{name} = {value_of(value)}" for name, value in each.items())]
-    return "\n".join([*lines, "", "[target]", *(f"{name} = {value_of(value)}" for name, value in table["target"].items())]) + "\n"
+    if "target" in table:
+        lines += ["", "[target]", *(f"{name} = {value_of(value)}" for name, value in table["target"].items())]
+    return "\n".join(lines) + "\n"
 
 
 def with_length(text, chance):

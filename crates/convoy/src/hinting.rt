@@ -5,6 +5,7 @@
 use super::ending::End;
 use super::kept::KeptWriter;
 use super::sweep_hints::hint_for_sweep;
+use super::table_hints::hint_for_table;
 use convoy_arguments::{Input, MOST_SECONDS, REJECTED, Verdict, hint_for_words};
 use convoy_commands::{
     Bounds, Done, Fault, Known, LONGEST_JOB, ListFault, MOST_SIMULATIONS, MOST_STEPS, MOST_TICKETS,
@@ -15,9 +16,9 @@ use convoy_hints::{
     hint_for_changes, hint_for_difference, hint_for_file_as_group, hint_for_first,
     hint_for_given_order, hint_for_given_schedule, hint_for_greatest, hint_for_jobs,
     hint_for_late_certificate, hint_for_late_message, hint_for_leads, hint_for_length,
-    hint_for_limit, hint_for_named_group, hint_for_order_in_ticks, hint_for_plain_number,
-    hint_for_reading, hint_for_scenario, hint_for_seconds, hint_for_tickets, hint_for_unchecked,
-    hint_for_writing, hint_of_text, is_name_of_file, line_for_file,
+    hint_for_limit, hint_for_named_group, hint_for_order, hint_for_order_in_ticks,
+    hint_for_plain_number, hint_for_reading, hint_for_scenario, hint_for_seconds, hint_for_tickets,
+    hint_for_unchecked, hint_for_writing, hint_of_text, is_name_of_file, line_for_file,
 };
 use convoy_streams::KeptReader;
 use convoy_tasks::{MOST_JOBS, Task};
@@ -94,8 +95,10 @@ fn text_of(task: &Task) -> &'static str {
         | Task::Report { .. }
         | Task::Budget { .. }
         | Task::Order { .. }
+        | Task::Listing { .. }
         | Task::Sweep { .. }
         | Task::Curve { .. } => "a scenario",
+        Task::Ranges { .. } => "a table of round trips",
         Task::Check { .. } | Task::Explain { .. } | Task::Draw { .. } => "a certificate",
         Task::Tell(_) => "a scenario or a certificate",
         Task::BatchTable { .. } => "scenarios",
@@ -218,6 +221,7 @@ fn hint_for_fault<R, W>(alloc: Global, run: &Finished<'_, R, W>, fault: &Fault) 
         },
         Fault::TooManyJobs => Ok(Some(hint_for_jobs(alloc, MOST_JOBS)?)),
         Fault::Sweep(cause) => Ok(Some(hint_for_sweep(alloc, *cause)?)),
+        Fault::Ranges(cause) => hint_for_table(alloc, *cause),
         Fault::Scenario(_)
         | Fault::Schedule(_)
         | Fault::Order(_)
@@ -256,10 +260,15 @@ fn asked_of_task(task: &Task) -> Option<&Asked> {
         | Task::Report { asked, .. }
         | Task::Budget { asked, .. }
         | Task::Order { asked, .. }
+        | Task::Listing { asked, .. }
         | Task::Sweep { asked, .. }
         | Task::Curve { asked, .. }
         | Task::BatchTable { asked, .. } => Some(asked),
-        Task::Tell(_) | Task::Check { .. } | Task::Explain { .. } | Task::Draw { .. } => None,
+        Task::Tell(_)
+        | Task::Ranges { .. }
+        | Task::Check { .. }
+        | Task::Explain { .. }
+        | Task::Draw { .. } => None,
     }
 }
 
@@ -383,6 +392,7 @@ fn options_of(verdict: &Verdict) -> Option<&Options> {
         | Task::Report { options, .. }
         | Task::Budget { options, .. }
         | Task::Order { options, .. }
+        | Task::Listing { options, .. }
         | Task::Sweep { options, .. }
         | Task::Curve { options, .. } => Some(options),
         _ => None,
@@ -460,7 +470,7 @@ fn hint_for_jobs_of<R, W>(alloc: Global, run: &Finished<'_, R, W>) -> Hint {
 }
 
 /// The hint for the kind of answer: without a command word the answer is that of one schedule, a deadline may not be
-/// kept, and a greatest latency may be the ceiling.
+/// kept, an order is one of the numbers by which groups break ties, and a greatest latency may be the ceiling.
 fn hint_for_kind_of_answer(alloc: Global, verdict: &Verdict, end: &End) -> Hint {
     match (verdict, end.done) {
         (
@@ -485,6 +495,13 @@ fn hint_for_kind_of_answer(alloc: Global, verdict: &Verdict, end: &End) -> Hint 
             },
             Done::Beyond,
         ) => hint_for_late_certificate(alloc).map(Some),
+        (
+            Verdict::Ask {
+                task: Task::Order { .. } | Task::Listing { .. },
+                ..
+            },
+            _,
+        ) => hint_for_order(alloc).map(Some),
         (Verdict::Ask { task, .. }, _) => hint_for_task(alloc, task, &end.known),
         (Verdict::Batch { .. } | Verdict::Text { .. } | Verdict::Memory, _) => Ok(None),
     }

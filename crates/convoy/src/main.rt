@@ -17,6 +17,7 @@ mod kept;
 mod obeying;
 mod progress;
 mod sweep_hints;
+mod table_hints;
 
 use convoy_arguments::{Input, Inputs, MOST_READS, Verdict, judge, judge_bytes};
 use convoy_commands::{Done, Fault, Options, Watch, fault_line};

@@ -2,6 +2,7 @@
 
 use super::escaping::Escaped;
 use clap::ArgMatches;
+use convoy_ranges::{RangesAsked, Speed};
 use convoy_scenario::{Duration, Name};
 use convoy_sweep::{Setting, Sweep, UnreadSetting};
 use convoy_toml::{Asked, TargetKey, WrittenTime};
@@ -158,6 +159,44 @@ fn setting_in(alloc: Global, word: &str) -> Result<Setting, Unasked> {
         Err(UnreadSetting::Form | UnreadSetting::Key | UnreadSetting::Time) => {
             Err(rejected(alloc, SET, word))
         }
+    }
+}
+
+/// How `--tick` and `--least` stand in a text for a person, and what can be written there.
+const TICK: (&str, &str) = ("--tick <DURATION>", "write a duration above 0, as '0.1 ms'");
+
+const LEAST: (&str, &str) = (
+    "--least <DURATION>",
+    "write a duration of a tick or longer, as '0.3 ms'",
+);
+
+/// By which rules round trips become ranges.
+pub(crate) fn ranges_of(alloc: Global, given: &ArgMatches<'_>) -> Result<RangesAsked, Unasked> {
+    let margin = given.get_one("margin").unwrap_or(0);
+    let speed = match given.get_str("speed") {
+        Some("air") => Speed::Air,
+        _ => Speed::Fibre,
+    };
+    let tick = duration_in(alloc, TICK, given.get_str("tick").unwrap_or("0.1 ms"))?;
+    let (least, word) = match given.get_str("least") {
+        Some(word) => (Some(duration_in(alloc, LEAST, word)?), word),
+        None => (None, ""),
+    };
+    match RangesAsked::new(margin, speed, least, tick) {
+        Some(asked) => Ok(asked),
+        None => Err(rejected(alloc, LEAST, word)),
+    }
+}
+
+/// The duration above 0 that a word tells.
+fn duration_in(
+    alloc: Global,
+    option: (&'static str, &'static str),
+    word: &str,
+) -> Result<Duration, Unasked> {
+    match Duration::read(word.as_bytes()) {
+        Some(duration) if duration.nanoseconds() >= 1 => Ok(duration),
+        _ => Err(rejected(alloc, option, word)),
     }
 }
 

@@ -381,20 +381,50 @@ as if by the greatest tie-breaking number:
   t        a      -                   12           12      6     6
   *        *      -                    -            -      6     6
 BEFORE_LEAST and BEFORE_MOST are between what the greatest latency lies with the groups
-as they are listed, LEAST and MOST with those in the best order. The last row is that
+as they are listed, LEAST and MOST with those in the best order. The row `*` is that
 of all targets: no order has a greatest latency below its LEAST, and the best one has
-at most its MOST. Where there are deadlines it tells in place of both how they are kept.
+at most its MOST. Where there are deadlines it tells in place of both how they are
+kept, and messages without one do not count.
 
 The exit status is 5 where a deadline is missed in the best order, else 3 where it is
-not known whether one is kept, or where there is none whether the order is the best.";
+not known whether one is kept, or where there is none whether the order is the best,
+or a search did not end in it.";
 
 pub(crate) const ABOUT_ALL_TARGETS: &str = "\
-Finds the best order for each message at each group that it goes to, with a deadline or
-not; the text need not have a target";
+Finds the best order for each message at each group that it goes to; where some have a
+deadline it is the best for these, and the others are told; the text need not have a
+target";
 
 pub(crate) const ABOUT_WHY: &str = "\
 Tells below the table why no order is better: a row for each of some groups, with an
 order in which those of them that stand behind it do no more harm than in any other";
+
+pub(crate) const ABOUT_RANGES: &str = "Writes links for a table of round trips";
+
+pub(crate) const LONG_ABOUT_RANGES: &str = "\
+Reads a table of round trips that were measured between places, as CSV, and writes for
+each two of these the table of a link, for a scenario whose groups are there:
+  from,to,round_trip,kilometres
+  dublin,boston,74.2,4820
+or a matrix, whose first line and first column name the places. A round trip is a number
+of milliseconds, or a duration as '74.2 ms'; the greatest of a pair counts. LEAST is what
+a signal takes for the distance, and MOST the greatest round trip, with the margin, less
+the LEAST of the way back, both in whole ticks. Half of a round trip is no such range.";
+
+pub(crate) const ABOUT_MARGIN: &str =
+    "How many percent longer than the greatest that was measured a round trip may be";
+
+pub(crate) const ABOUT_SPEED: &str =
+    "How fast a signal goes at most: 200 km in a millisecond in fibre, 300 km in air";
+
+pub(crate) const ABOUT_LEAST: &str =
+    "The least that a packet takes where no distance is known; a tick where not given";
+
+pub(crate) const ABOUT_TICK: &str = "How long a tick lasts, of which ranges are whole numbers";
+
+pub(crate) const ABOUT_LISTING: &str = "\
+Writes in place of the table the scenario with its groups in the best order, as
+`scenario` writes one: in ticks, and without deadlines";
 
 pub(crate) const ABOUT_SWEEP: &str = "Tells the latency for each value of a time or a range";
 
@@ -501,6 +531,10 @@ pub(crate) const ABOUT_JOBS: &str = "\
 How many rows of the table are made at a time, each in a thread of its own, which
 `--workers` may share: from 1 to 16, and 1 without this option. The table does not
 depend on it, but for rows that `--seconds` stops";
+
+pub(crate) const ABOUT_CEILINGS_JOBS: &str = "\
+How many rows of the table are made at a time, each in a thread of its own: from 1
+to 16, and 1 without this option. The table does not depend on it";
 
 pub(crate) const ABOUT_PROGRESS: &str = "\
 Tells on standard error, once a second, how far the search has come. Where that

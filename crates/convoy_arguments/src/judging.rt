@@ -1,7 +1,7 @@
 ghost use Rattle.std.specs.Prelude.{◌≡◌, ◌⊎◌, IfOk};
 ghost use Rattle.convoy_arguments.specs.Verdicts.{EndsAtOnce, IsVerdict, WantsOnlyIfChecks};
 
-use super::asking::{Unasked, asked_of, curve_of, sweep_of};
+use super::asking::{Unasked, asked_of, curve_of, ranges_of, sweep_of};
 use super::escaping::{are_shown, with_escapes};
 use super::input::{Input, Inputs};
 use super::limits::{HELP, REJECTED};
@@ -186,16 +186,12 @@ fn verdict_for(
             manner,
         });
     }
-    let task = if name == "sweep" {
-        match sweep_for(alloc, given, asked) {
-            Ok(task) => task,
-            Err(Unasked::Rejected(text)) => {
-                return Ok(rejected(alloc, text.as_str(), manner.is_quiet));
-            }
-            Err(Unasked::Memory) => return Ok(Verdict::Memory),
+    let task = match task_of(alloc, name, given, asked) {
+        Ok(task) => task,
+        Err(Unasked::Rejected(text)) => {
+            return Ok(rejected(alloc, text.as_str(), manner.is_quiet));
         }
-    } else {
-        task_for(alloc, name, given, asked)?
+        Err(Unasked::Memory) => return Ok(Verdict::Memory),
     };
     let wanted = wanted_for(alloc, &task, given)?;
     if let (Some(Input::Standard), Input::Standard) = (&wanted, &text) {
@@ -206,6 +202,22 @@ fn verdict_for(
         inputs: Inputs { text, wanted },
         manner,
     })
+}
+
+/// The task of the command of that name, of which a value may be none.
+fn task_of(
+    alloc: Global,
+    name: &str,
+    given: &ArgMatches<'_>,
+    asked: Asked,
+) -> Result<Task, Unasked> {
+    match name {
+        "sweep" => sweep_for(alloc, given, asked),
+        "ranges" => Ok(Task::Ranges {
+            rules: ranges_of(alloc, given)?,
+        }),
+        _ => Ok(task_for(alloc, name, given, asked)?),
+    }
 }
 
 /// The input of the scenario that a certificate is to be of, where `check` names one; no other task has one.
@@ -324,11 +336,19 @@ fn budget_for(given: &ArgMatches<'_>, asked: Asked) -> Task {
     }
 }
 
-/// What `order` asks for.
+/// What `order` asks for: the scenario with its groups in the best order, or a table.
 fn order_for(given: &ArgMatches<'_>, asked: Asked) -> Task {
+    let wanted = wanted_of(given);
+    if given.get_flag("scenario") {
+        return Task::Listing {
+            wanted,
+            asked,
+            options: options_of(given),
+        };
+    }
     Task::Order {
         format: format_of(given),
-        wanted: wanted_of(given),
+        wanted,
         with_reasons: given.get_flag("why"),
         asked,
         options: options_of(given),

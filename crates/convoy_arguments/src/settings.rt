@@ -3,16 +3,18 @@
 use super::help::{
     ABOUT_ALL, ABOUT_ALL_CHANGES, ABOUT_ALL_DEADLINES, ABOUT_ALL_TARGETS, ABOUT_ANALYSE,
     ABOUT_AT_MOST, ABOUT_BATCH, ABOUT_BATCH_AT_MOST, ABOUT_BATCH_FORMAT, ABOUT_BESIDE,
-    ABOUT_BOUNDS, ABOUT_BUDGET, ABOUT_CEILING, ABOUT_CHECK, ABOUT_DRAW, ABOUT_ENVELOPE,
-    ABOUT_EXPLAIN, ABOUT_FIRST, ABOUT_FORMAT, ABOUT_GROUP, ABOUT_JOBS, ABOUT_LATENCY, ABOUT_LIMIT,
-    ABOUT_OF_CEILING, ABOUT_ORDER, ABOUT_PACKETS, ABOUT_PROGRESS, ABOUT_REPORT, ABOUT_SCENARIO,
-    ABOUT_SECONDS, ABOUT_SEEK, ABOUT_SEEK_TRAFFIC, ABOUT_SET, ABOUT_SIMULATE, ABOUT_STATUS,
-    ABOUT_STEPS, ABOUT_SURVEY, ABOUT_SWEEP, ABOUT_SWEEP_FORMAT, ABOUT_TARGET, ABOUT_TELL,
-    ABOUT_TIMELINE, ABOUT_UNIT, ABOUT_WANTED, ABOUT_WHY, ABOUT_WITHOUT, ABOUT_WORKERS,
-    LONG_ABOUT_ANALYSE, LONG_ABOUT_BATCH, LONG_ABOUT_BUDGET, LONG_ABOUT_CEILING, LONG_ABOUT_CHECK,
-    LONG_ABOUT_DRAW, LONG_ABOUT_EXPLAIN, LONG_ABOUT_FIRST, LONG_ABOUT_LATENCY, LONG_ABOUT_ORDER,
-    LONG_ABOUT_PACKETS, LONG_ABOUT_REPORT, LONG_ABOUT_SCENARIO, LONG_ABOUT_SIMULATE,
-    LONG_ABOUT_SURVEY, LONG_ABOUT_SWEEP, LONG_ABOUT_TIMELINE,
+    ABOUT_BOUNDS, ABOUT_BUDGET, ABOUT_CEILING, ABOUT_CEILINGS_JOBS, ABOUT_CHECK, ABOUT_DRAW,
+    ABOUT_ENVELOPE, ABOUT_EXPLAIN, ABOUT_FIRST, ABOUT_FORMAT, ABOUT_GROUP, ABOUT_JOBS,
+    ABOUT_LATENCY, ABOUT_LEAST, ABOUT_LIMIT, ABOUT_LISTING, ABOUT_MARGIN, ABOUT_OF_CEILING,
+    ABOUT_ORDER, ABOUT_PACKETS, ABOUT_PROGRESS, ABOUT_RANGES, ABOUT_REPORT, ABOUT_SCENARIO,
+    ABOUT_SECONDS, ABOUT_SEEK, ABOUT_SEEK_TRAFFIC, ABOUT_SET, ABOUT_SIMULATE, ABOUT_SPEED,
+    ABOUT_STATUS, ABOUT_STEPS, ABOUT_SURVEY, ABOUT_SWEEP, ABOUT_SWEEP_FORMAT, ABOUT_TARGET,
+    ABOUT_TELL, ABOUT_TICK, ABOUT_TIMELINE, ABOUT_UNIT, ABOUT_WANTED, ABOUT_WHY, ABOUT_WITHOUT,
+    ABOUT_WORKERS, LONG_ABOUT_ANALYSE, LONG_ABOUT_BATCH, LONG_ABOUT_BUDGET, LONG_ABOUT_CEILING,
+    LONG_ABOUT_CHECK, LONG_ABOUT_DRAW, LONG_ABOUT_EXPLAIN, LONG_ABOUT_FIRST, LONG_ABOUT_LATENCY,
+    LONG_ABOUT_ORDER, LONG_ABOUT_PACKETS, LONG_ABOUT_RANGES, LONG_ABOUT_REPORT,
+    LONG_ABOUT_SCENARIO, LONG_ABOUT_SIMULATE, LONG_ABOUT_SURVEY, LONG_ABOUT_SWEEP,
+    LONG_ABOUT_TIMELINE,
 };
 use super::limits::MOST_SECONDS;
 use clap::builder::ValueParser;
@@ -186,6 +188,14 @@ const BATCH_JOBS: Setting = Setting {
     about: ABOUT_JOBS,
     value: ROWS_AT_A_TIME,
     company: Company::With("format"),
+};
+
+/// The same of ceilings, of which there are rows where several are asked for.
+const CEILINGS_JOBS: Setting = Setting {
+    name: "jobs",
+    about: ABOUT_CEILINGS_JOBS,
+    value: ROWS_AT_A_TIME,
+    company: Company::With(TARGETS),
 };
 
 /// Whether a search tells how far it has come.
@@ -364,6 +374,46 @@ const WHY: Setting = Setting {
     name: "why",
     about: ABOUT_WHY,
     value: Value::Absent,
+    company: Company::Without("scenario"),
+};
+
+/// Whether the scenario is written with its groups in the best order, in place of a table.
+const LISTING: Setting = Setting {
+    name: "scenario",
+    about: ABOUT_LISTING,
+    value: Value::Absent,
+    company: Company::Without("format"),
+};
+
+/// By how much a round trip may be longer than the greatest that was measured.
+const MARGIN: Setting = Setting {
+    name: "margin",
+    about: ABOUT_MARGIN,
+    value: Value::Usual("PERCENT", ValueParser::Unsigned(0, 255), "0"),
+    company: Company::Any,
+};
+
+/// How fast a signal goes at most.
+const SPEED: Setting = Setting {
+    name: "speed",
+    about: ABOUT_SPEED,
+    value: Value::Usual("WAY", ValueParser::Names(&["fibre", "air"]), "fibre"),
+    company: Company::Any,
+};
+
+/// The least that a packet takes where no distance is known.
+const LEAST: Setting = Setting {
+    name: "least",
+    about: ABOUT_LEAST,
+    value: Value::Given("DURATION", ValueParser::String),
+    company: Company::Any,
+};
+
+/// How long a tick lasts.
+const TICK: Setting = Setting {
+    name: "tick",
+    about: ABOUT_TICK,
+    value: Value::Usual("DURATION", ValueParser::String, "0.1 ms"),
     company: Company::Any,
 };
 
@@ -408,7 +458,7 @@ const TELL: Setting = Setting {
 };
 
 /// The commands.
-pub(crate) const COMMANDS: [Listed; 17] = [
+pub(crate) const COMMANDS: [Listed; 18] = [
     Listed {
         name: "analyse",
         about: ABOUT_ANALYSE,
@@ -449,6 +499,7 @@ pub(crate) const COMMANDS: [Listed; 17] = [
             CEILINGS_FORMAT,
             UNIT,
             SEEK_TRAFFIC,
+            CEILINGS_JOBS,
         ],
     },
     Listed {
@@ -509,15 +560,23 @@ pub(crate) const COMMANDS: [Listed; 17] = [
             AT_MOST,
             ALL_TARGETS,
             WHY,
+            LISTING,
             LIMIT,
             SECONDS,
             SEEK,
             BOUNDS,
             WORKERS,
+            JOBS,
             PROGRESS,
             FORMAT,
             UNIT,
         ],
+    },
+    Listed {
+        name: "ranges",
+        about: ABOUT_RANGES,
+        long_about: LONG_ABOUT_RANGES,
+        settings: &[MARGIN, SPEED, LEAST, TICK],
     },
     Listed {
         name: "sweep",

@@ -1,5 +1,5 @@
 use super::other_options::hint_for_strange;
-use super::settings::{Value, command_named, setting_named};
+use super::settings::{Setting, Value, command_named, setting_named};
 use convoy_hints_sketch::Quoted;
 use std::alloc::{AllocError, Global};
 use std::convert::AsStr;
@@ -9,15 +9,17 @@ use std::fmt;
 const WITH_TABLES: [&str; 6] = ["survey", "batch", "ceiling", "budget", "order", "sweep"];
 
 /// Options of a command or two, and these commands as they are told.
-const OF_SOME: [(&str, &str); 13] = [
+const OF_SOME: [(&str, &str); 15] = [
     ("all", "'ceiling', 'budget', 'order' and 'survey --without'"),
     ("group", "'ceiling'"),
     ("ceiling", "'latency', 'explain', 'survey' and 'budget'"),
     ("without", "'survey'"),
-    ("scenario", "'check'"),
+    ("scenario", "'check' and 'order'"),
     ("tell", "'check'"),
     ("why", "'order'"),
     ("status", "'batch'"),
+    ("margin", "'ranges'"),
+    ("speed", "'ranges'"),
     (
         "at-most",
         "'latency', 'analyse', 'survey', 'report', 'ceiling', 'budget', 'order', 'sweep' and 'batch'",
@@ -32,7 +34,7 @@ const OF_SOME: [(&str, &str); 13] = [
     ),
     (
         "jobs",
-        "'survey', 'report', 'budget', 'sweep' and 'batch --format'",
+        "'survey', 'report', 'budget', 'order', 'sweep', 'ceiling --all' and 'batch --format'",
     ),
     (
         "format",
@@ -138,7 +140,7 @@ impl<'a> Sorted<'a> {
             self.settings.push(format)?;
             return Ok(None);
         }
-        let Some(has_value) = has_value(name) else {
+        let Some(has_value) = has_value(self.named_command(), name) else {
             self.strange = self.strange.or(Some(name));
             return Ok(None);
         };
@@ -245,7 +247,7 @@ impl<'a> Sorted<'a> {
                 Some(("a file stands after a command", Some(file)))
             }
             (None, [_, rest @ ..]) if self.is_misformatted() => Some((
-                "'survey', 'batch' and 'ceiling --all' write tables, in the format that '--format' names",
+                "'survey', 'budget', 'order', 'sweep', 'batch' and 'ceiling --all' write tables, in the format that '--format' names",
                 rest.first().copied(),
             )),
             _ => None,
@@ -356,9 +358,14 @@ fn misplaced_in(command: &str, word: &str) -> Option<(&'static str, &'static str
 
 /// Whether the command of that name has an option.
 fn has_option(command: &str, option: &str) -> bool {
+    setting_of(command, option).is_some()
+}
+
+/// The option of that name, where the command of that name has it.
+fn setting_of(command: &str, option: &str) -> Option<Setting> {
     match command_named(command) {
-        Some(listed) => listed.setting(option).is_some(),
-        None => false,
+        Some(listed) => listed.setting(option),
+        None => None,
     }
 }
 
@@ -368,13 +375,16 @@ fn is_option(word: &str, name: &str) -> bool {
     option.strip_prefix("--") == Some(name)
 }
 
-/// Whether an option has a value; None where there is no such option.
-fn has_value(option: &str) -> Option<bool> {
+/// Whether an option has a value, of that command, or else of the first that has it; None where there is no such option.
+fn has_value(command: &str, option: &str) -> Option<bool> {
     let name = option.strip_prefix("--")?;
     if name == "quiet" {
         return Some(false);
     }
-    let setting = setting_named(name)?;
+    let setting = match setting_of(command, name) {
+        Some(setting) => setting,
+        None => setting_named(name)?,
+    };
     Some(!matches!(setting.value, Value::Absent))
 }
 

@@ -3,7 +3,7 @@ use Rattle.std.proofs.Common.{All, ◌≡◌, ℕ, ◌+◌, ◌<◌, Bool, true,
 use Rattle.std.specs.List.{Contains, remove, slice_get}
 use Rattle.std.specs.List.Sorted.{IsPermutation}
 use Rattle.std.proofs.lemmas.Bool.{eq-eqb}
-use Rattle.std.proofs.lemmas.List.{get_or_default, length-map, map-append, take_more}
+use Rattle.std.proofs.lemmas.List.{get_or_default, length-map}
 use Rattle.std.proofs.lemmas.List.Elements.{All-contains_itself, All-head, All-push, All-tail, Contains-get_or}
 use Rattle.std.proofs.lemmas.List.Sorted.{All-permutation, IsPermutation-append_right, IsPermutation-filter_both, IsPermutation-remove, IsPermutation-trans}
 use Rattle.std.proofs.lemmas.Option.{get_or_from_slice_get}
@@ -89,14 +89,6 @@ is_reason settings scenario targets ahead left place reason within is order at o
   found = found;
 }
 
-pub groups_more : (left : List ℕ) (place : ℕ) (reasons : List Reason) (reason : Reason) → place < length left → groups_of reasons ≡ take place left
-    → slice_get left place ≡ Some (group_of reason) → groups_of (reasons ++ reason ∷ []) ≡ take (place + 1) left
-groups_more left place reasons reason within so_far at =
-    map-append group_of reasons (reason ∷ [])
-    ∙ ap (λ gs. gs ++ group_of reason ∷ []) so_far
-    ∙ ap (λ g. take place left ++ g ∷ []) (sym (get_or_from_slice_get left place (group_of reason) 0 at))
-    ∙ sym (take_more left place 0 within)
-
 pub are_reasons : (settings : Settings) (scenario : Scenario) (targets : List Target) (left : List ℕ) (reasons : List Reason) → 0 < length reasons
     → groups_of reasons ≡ left → All (IsReason settings scenario targets left) reasons → AreReasons settings scenario targets reasons
 are_reasons settings scenario targets left reasons some is all = record {
@@ -106,18 +98,6 @@ are_reasons settings scenario targets left reasons some is all = record {
 
 pub as_many : (left : List ℕ) (reasons : List Reason) → groups_of reasons ≡ left → length reasons ≡ length left
 as_many left reasons is = sym (length-map reasons group_of) ∙ ap length is
-
--- ---- rows
-pub rows_more : (settings : Settings) (scenario : Scenario) (targets : List Target) (order : List ℕ) (i : ℕ) (d : Target) (rows : List Row) (row : Row) → i < length targets
-    → AreRows settings scenario (take i targets) order rows → row.target ≡ get_or targets i d → IsRow settings scenario order row
-    → AreRows settings scenario (take (i + 1) targets) order (rows ++ row ∷ [])
-rows_more settings scenario targets order i d rows row within so_far at is = record {
-  of_targets = map-append target_of rows (row ∷ [])
-      ∙ ap (λ ts. ts ++ row.target ∷ []) so_far.of_targets
-      ∙ ap (λ t. take i targets ++ t ∷ []) at
-      ∙ sym (take_more targets i d within);
-  all = All-push (IsRow settings scenario order) rows row so_far.all is;
-}
 
 -- ---- the dearest target
 dearer_has : (P : Target → Spread → Type 0) (dearest : Option Dearest) (target : Target) (spread : Spread) → IfSome dearest (λ d. P d.target d.spread) → P target spread

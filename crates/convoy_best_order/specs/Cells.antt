@@ -109,7 +109,7 @@ kept_cells layout best =
     then verdict_cells layout.is_judged layout.times (Some best.least.limit) (Some best.least.latency) (Some best.least.latency)
     else verdict_cells layout.is_judged layout.times (Some best.most.limit) (Some 0) (Some best.most.latency)
 
--- all targets together in the best order
+-- all targets that count together, in the best order
 abbrev pub whole_cells : Layout → Scenario → Best → List Cell
 whole_cells layout scenario best =
     all_cells ++ (number_cells layout None (bounds_of layout.is_judged best)
@@ -140,20 +140,21 @@ columns_of layout =
     tick_columns ++ (where_told layout.times time_columns ++ (verdict_columns layout.is_judged layout.times ++ order_columns layout))
 
 -- THE TABLE
--- a line for each target, one for all together, and one for each reason where they are asked for
-abbrev pub lines_of : Bool → Layout → Scenario → Best → List (List Cell)
-lines_of with_reasons layout scenario best =
+-- a line for each target that counts, one for each other one, one for all that count together, and one for each reason where they are asked for
+abbrev pub lines_of : Bool → Layout → Scenario → Best → List Row → List (List Cell)
+lines_of with_reasons layout scenario best others =
     map (row_cells layout scenario best.order.items) best.rows.items
-    ++ (whole_cells layout scenario best ∷ reason_lines with_reasons layout scenario best.reasons.items)
+    ++ (map (row_cells layout scenario best.order.items) others
+    ++ (whole_cells layout scenario best ∷ reason_lines with_reasons layout scenario best.reasons.items))
 
-abbrev pub table_of : Bool → Layout → Scenario → Best → Table
-table_of with_reasons layout scenario best = record {
+abbrev pub table_of : Bool → Layout → Scenario → Best → List Row → Table
+table_of with_reasons layout scenario best others = record {
   columns = columns_of layout;
-  rows = lines_of with_reasons layout scenario best;
+  rows = lines_of with_reasons layout scenario best others;
 }
 
 -- the whole text
-abbrev pub order_text : Format → Bool → Option Measure → Scenario → List Target → Best → List ℕ
-order_text format with_reasons measure scenario targets best =
+abbrev pub order_text : Format → Bool → Option Measure → Scenario → List Target → Best → List Row → List ℕ
+order_text format with_reasons measure scenario targets best others =
     line_above format scenario best.order.items
-    ++ table_text format (table_of with_reasons (layout_of format with_reasons measure targets) scenario best)
+    ++ table_text format (table_of with_reasons (layout_of format with_reasons measure targets) scenario best others)

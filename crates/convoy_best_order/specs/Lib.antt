@@ -21,5 +21,6 @@ pub mod Best
 pub mod Cells
 pub mod Answers
 pub mod OrderLaws
--- which group is listed next
+-- which group is listed next, and what is answered for each group and each target
 pub mod Choices
+pub mod Each

@@ -1,5 +1,5 @@
 -- For which targets an order is to be the best.
-use Rattle.std.specs.Prelude.{ℕ, Bool, true, false, ◌==◌, List, [], ◌∷◌, Option, Some, None, is_some, unwrap_or, if◌then◌else◌}
+use Rattle.std.specs.Prelude.{ℕ, Bool, true, false, ◌==◌, ◌||◌, not, List, [], ◌∷◌, filter, Option, Some, None, is_some, unwrap_or, if◌then◌else◌}
 use Rattle.std.specs.List.{flat_map, list_any}
 use Rattle.convoy_scenario.specs.Scenario.{Scenario, may_wait, message_at, message_numbers}
 use Rattle.convoy_scenario.specs.Targets.{with_target}
@@ -67,3 +67,14 @@ has_target targets g = list_any (is_at g) targets
 -- one of them has a deadline
 abbrev pub are_judged : List Target → Bool
 are_judged targets = list_any (λ target. is_some target.deadline) targets
+
+-- the target counts: where one of them has a deadline those that have one do alone, and else all
+abbrev pub counts : Bool → Target → Bool
+counts is_judged target = not is_judged || is_some target.deadline
+
+-- those of them for which the order is to be the best, and the others, of which is only told how late they are
+abbrev pub counted : List Target → List Target
+counted targets = filter (counts (are_judged targets)) targets
+
+abbrev pub uncounted : List Target → List Target
+uncounted targets = filter (λ target. not (counts (are_judged targets) target)) targets

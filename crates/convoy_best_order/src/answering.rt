@@ -1,29 +1,38 @@
-ghost use Rattle.std.specs.Prelude.{◌≡◌};
+ghost use Rattle.std.specs.Prelude.{◌≡◌, ◌<◌, length, IfOk};
 ghost use Rattle.std.specs.List.{list_any};
+ghost use Rattle.convoy_toml_writer.specs.Text.{toml_text};
+ghost use Rattle.convoy_commands.specs.First.{least_schedule};
 ghost use Rattle.convoy_commands.specs.Replies.{SaysUnlessMemory, reply_of};
-ghost use Rattle.convoy_best_order.specs.Answers.{OrderSays, end_of, is_order_open, is_row_beyond, is_row_open};
+ghost use Rattle.convoy_best_order.specs.Answers.{ListingSays, OrderSays, end_of, is_order_open, is_row_beyond, is_row_open};
 
 use super::best::{Best, Row};
 use super::choosing::best_order;
+use super::listing::listed;
+use super::rows::rows_of;
 use super::table::order_text;
-use super::targets::{are_judged, targets_of};
+use super::targets::{are_judged, counted, targets_of, uncounted};
 use super::wanted::Wanted;
 use convoy_branch::Options;
 use convoy_commands::{Answer, Done, Fault, Watch};
+use convoy_packets::{Instance, Schedule};
+use convoy_scenario::Scenario;
 use convoy_survey::{is_beyond, is_open_by, verdict_at};
 use convoy_tables::Format;
 use convoy_times::Measure;
 use convoy_toml::{Asked, read_toml_asked};
-use std::alloc::Global;
+use convoy_toml_writer::write_toml;
+use std::alloc::{AllocError, Global};
 use std::sync::Wait;
 use std::thread::Threads;
 
 /// The best order of the groups of the scenario of a text ([`best_order`]): the order with the least greatest excess of
-/// latency over deadline, of the targets that are wanted ([`targets_of`](crate::targets_of)). What is written is a line with the order, in text, and a
-/// table: a row for each target, with what its latency is at least and at most with the groups as they are listed and in
-/// that order; one for all targets together; and, where they are asked for, one for each reason why no order is better. Numbers
-/// are in ticks, and where times are told ([`Times::of`](convoy_survey::Times::of)) in the unit that the options ask for
-/// or else the text writes, too. Each search is watched, by [`NoGate`](convoy_branch::NoGate) where nobody watches.
+/// latency over deadline, of the targets that are wanted ([`targets_of`](crate::targets_of)); where one of them has a
+/// deadline only those that have one count. What is written is a line with the order, in text, and a table: a row for
+/// each target, those that count first, with what its latency is at least and at most with the groups as they are listed
+/// and in that order; one for all that count together; and, where they are asked for, one for each reason why no order is
+/// better. Numbers are in ticks, and where times are told ([`Times::of`](convoy_survey::Times::of)) in the unit that the
+/// options ask for or else the text writes, too. As many searches are made at a time as there are watches, and each is
+/// watched by one of them, by [`NoGate`](convoy_branch::NoGate) where nobody watches.
 ///
 /// It ends as `Done::Beyond` where a deadline is missed in the best order; else as `Done::Open` where it is not known
 /// whether one is kept, or where there is none and it is not known whether the order is the best.
@@ -38,8 +47,9 @@ pub fn order_answer<R: Threads + Wait + Sync, W: Watch + Sync>(
     asked: &Asked,
     options: &Options,
     text: &[u8],
-    watch: &W,
+    watches: &[W],
 ) -> Result<Answer, Fault>
+    requires { 0 < length watches.now }
     ensures { SaysUnlessMemory (OrderSays format wanted with_reasons asked.now options.now) text.now (reply_of result) }
 {
     let input = read_toml_asked(alloc, text, asked)?;
@@ -47,7 +57,10 @@ pub fn order_answer<R: Threads + Wait + Sync, W: Watch + Sync>(
     // A scenario is well formed.
     let _count = scenario.message_count();
     let targets = targets_of(alloc, wanted, &input.deadlines, &scenario)?;
-    let best = best_order(rt, alloc, &scenario, &targets, options, watch)?;
+    let counting = counted(alloc, &targets)?;
+    let rest = uncounted(alloc, &targets)?;
+    let best = best_order(rt, alloc, &scenario, &counting, options, watches)?;
+    let others = rows_of(rt, alloc, &scenario, &rest, &best.order, options, watches)?;
     let measure = Measure::of(&scenario, options.unit(), input.unit);
     let text = order_text(
         alloc,
@@ -57,9 +70,49 @@ pub fn order_answer<R: Threads + Wait + Sync, W: Watch + Sync>(
         &scenario,
         &targets,
         &best,
+        &others,
     )?;
     let done = end_of(are_judged(&targets), &best);
     Ok(Answer::about(done, text, scenario, input.plain))
+}
+
+/// The scenario of a text with its groups in the best order, as a text that reads as it: what [`order_answer`] tells as a
+/// table. All its times are numbers of ticks, it gives the schedule of least delays, and of deadlines it says nothing, as
+/// no scenario does. It ends as `order_answer` does, and has its faults.
+pub fn listing_answer<R: Threads + Wait + Sync, W: Watch + Sync>(
+    rt: &R,
+    alloc: Global,
+    wanted: Wanted,
+    asked: &Asked,
+    options: &Options,
+    text: &[u8],
+    watches: &[W],
+) -> Result<Answer, Fault>
+    requires { 0 < length watches.now }
+    ensures { SaysUnlessMemory (ListingSays wanted asked.now options.now) text.now (reply_of result) }
+{
+    let input = read_toml_asked(alloc, text, asked)?;
+    let scenario = input.scenario;
+    // A scenario is well formed.
+    let _count = scenario.message_count();
+    let targets = targets_of(alloc, wanted, &input.deadlines, &scenario)?;
+    let counting = counted(alloc, &targets)?;
+    let best = best_order(rt, alloc, &scenario, &counting, options, watches)?;
+    let other = listed(alloc, &scenario, &best.order)?;
+    let text = text_of(alloc, other)?;
+    let done = end_of(are_judged(&targets), &best);
+    Ok(Answer::about(done, text, scenario, input.plain))
+}
+
+/// The text of a scenario with the schedule of its least delays.
+fn text_of(alloc: Global, scenario: Scenario) -> Result<Vec<u8>, AllocError>
+    ensures { IfOk result (λ text. text.items ≡ toml_text scenario (least_schedule scenario)) }
+{
+    let instance = Instance::of(alloc, scenario)?;
+    let schedule = Schedule::least(alloc, instance.table())?;
+    let mut text = Vec::new(alloc);
+    write_toml(instance.scenario(), &schedule, &mut text)?;
+    Ok(text)
 }
 
 /// How it ends, where deadlines are judged or not.
@@ -78,14 +131,14 @@ fn is_order_open(is_judged: bool, best: &Best) -> bool
 }
 
 /// Whether a deadline is missed.
-fn has_beyond(rows: &[Row]) -> bool
+pub fn has_beyond(rows: &[Row]) -> bool
     ensures { result ≡ list_any is_row_beyond rows.now }
 {
     rows.iter().any(|row| is_row_beyond(row))
 }
 
-/// Whether a row is open.
-fn has_open(rows: &[Row]) -> bool
+/// Whether a row is open: it is not known whether it keeps its deadline, or where it has none its search did not end.
+pub fn has_open(rows: &[Row]) -> bool
     ensures { result ≡ list_any is_row_open rows.now }
 {
     rows.iter().any(|row| is_row_open(row))

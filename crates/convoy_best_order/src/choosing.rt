@@ -29,21 +29,23 @@ use std::thread::Threads;
 /// is the least where all others that are left stand behind it, and of several such that which the scenario lists
 /// first. So G groups take G (G + 1) / 2 steps at most, each with a search for each target at one group; then each target is
 /// searched in the order as it is and in the order that is told. Where a search does not end, what it has found at most
-/// is what counts of it. Each search is watched. Fails where memory runs out, and else never.
+/// is what counts of it. Of one step, and of the targets at the end, as many groups or targets are searched at a time as
+/// there are watches, each by one of them. Fails where memory runs out, and else never.
 pub fn best_order<R: Threads + Wait + Sync, W: Watch + Sync>(
     rt: &R,
     alloc: Global,
     scenario: &Scenario,
     targets: &[Target],
     options: &Options,
-    watch: &W,
+    watches: &[W],
 ) -> Result<Best, AllocError>
+    requires watched { 0 < length watches.now }
     requires some { 0 < length targets.now }
     requires lawful { All (MayBeTarget scenario.now) targets.now }
     ensures { IfOk result (IsBest options.now scenario.now targets.now) }
 {
-    let (order, reasons) = chosen_order(rt, alloc, scenario, targets, options, watch)?;
-    let rows = rows_of(rt, alloc, scenario, targets, &order, options, watch)?;
+    let (order, reasons) = chosen_order(rt, alloc, scenario, targets, options, watches)?;
+    let rows = rows_of(rt, alloc, scenario, targets, &order, options, watches)?;
     let (least, most) = (least_excess(&reasons), greatest_excess(&rows));
     Ok(Best {
         order,
@@ -61,8 +63,9 @@ fn chosen_order<R: Threads + Wait + Sync, W: Watch + Sync>(
     scenario: &Scenario,
     targets: &[Target],
     options: &Options,
-    watch: &W,
+    watches: &[W],
 ) -> Result<(Vec<usize>, Vec<Reason>), AllocError>
+    requires watched { 0 < length watches.now }
     requires some { 0 < length targets.now }
     requires lawful { All (MayBeTarget scenario.now) targets.now }
     ensures order { IfOk result (λ chosen. IsOrder scenario.now chosen.0.items) }
@@ -72,10 +75,14 @@ fn chosen_order<R: Threads + Wait + Sync, W: Watch + Sync>(
     let _count = scenario.group_count();
     let mut ahead = groups_without(alloc, scenario, targets)?;
     let mut left = groups_with(alloc, scenario, targets)?;
-    let mut strongest = reasons_of(rt, alloc, scenario, targets, &ahead, &left, options, watch)?;
+    let mut strongest = reasons_of(
+        rt, alloc, scenario, targets, &ahead, &left, options, watches,
+    )?;
     list_next(cheapest(&strongest), &mut ahead, &mut left)?;
     while !left.is_empty() {
-        let reasons = reasons_of(rt, alloc, scenario, targets, &ahead, &left, options, watch)?;
+        let reasons = reasons_of(
+            rt, alloc, scenario, targets, &ahead, &left, options, watches,
+        )?;
         list_next(cheapest(&reasons), &mut ahead, &mut left)?;
         strongest = stronger(strongest, reasons);
     }

@@ -3,15 +3,17 @@
 //! late each target is before and after, and why no order is better.
 #![tactic(auto)]
 
-pub use answering::order_answer;
+pub use answering::{has_beyond, has_open, listing_answer, order_answer};
 pub use best::{Best, Reason, Row};
 pub use choosing::best_order;
 pub use convoy_tables::Format;
 pub use excess::Excess;
 pub use listing::listed;
+pub use naming::order_line;
 pub use spread::Spread;
+pub use table::order_table;
 pub use target::Target;
-pub use targets::targets_of;
+pub use targets::{are_judged, counted, targets_of};
 pub use wanted::Wanted;
 
 mod answering;

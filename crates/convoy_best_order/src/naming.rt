@@ -40,12 +40,8 @@ fn push_others(scenario: &Scenario, others: &[usize], words: &mut String) -> Res
     Ok(())
 }
 
-/// The line that tells an order.
-pub(crate) fn order_line(
-    alloc: Global,
-    scenario: &Scenario,
-    order: &[usize],
-) -> Result<String, AllocError>
+/// The line that tells an order: `order` and the names of its groups. Fails where memory runs out, and else never.
+pub fn order_line(alloc: Global, scenario: &Scenario, order: &[usize]) -> Result<String, AllocError>
     ensures { IfOk result (λ line. string_bytes line ≡ order_line scenario.now order.now) }
 {
     let words = order_words(alloc, scenario, order)?;

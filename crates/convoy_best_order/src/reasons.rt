@@ -1,8 +1,10 @@
 //! What each of the groups that are left costs where it is listed next.
 
-ghost use Rattle.std.specs.Prelude.{◌≡◌, ◌<◌, ◌++◌, length, slice_get, IsTrue, All, Some, IfOk};
+ghost use Rattle.std.specs.Prelude.{◌≡◌, ◌<◌, ◌++◌, length, IsTrue, All, IfOk};
+ghost use Rattle.std.specs.List.{AllZip, range_with_len};
 ghost use Rattle.convoy_best_order.specs.Best.{IsReason, groups_of};
 ghost use Rattle.convoy_best_order.specs.Choices.{with_next};
+ghost use Rattle.convoy_best_order.specs.Each.{MayBeNext, MayBeReason};
 ghost use Rattle.convoy_best_order.specs.Orders.{IsOrder};
 ghost use Rattle.convoy_best_order.specs.Targets.{MayBeTarget, has_target};
 
@@ -11,13 +13,14 @@ use super::costs::dearest_at;
 use super::target::Target;
 use convoy_branch::Options;
 use convoy_commands::Watch;
+use convoy_rows::{all_values, make_rows};
 use convoy_scenario::Scenario;
 use std::alloc::{AllocError, Global};
 use std::sync::Wait;
 use std::thread::Threads;
 
-/// For each of the groups that are left how late its dearest target is where all others that are left stand behind it. Fails
-/// where memory runs out, and else never.
+/// For each of the groups that are left how late its dearest target is where all others that are left stand behind it, as
+/// many at a time as there are watches. Fails where memory runs out, and else never.
 pub(crate) fn reasons_of<R: Threads + Wait + Sync, W: Watch + Sync>(
     rt: &R,
     alloc: Global,
@@ -26,8 +29,9 @@ pub(crate) fn reasons_of<R: Threads + Wait + Sync, W: Watch + Sync>(
     ahead: &[usize],
     left: &[usize],
     options: &Options,
-    watch: &W,
+    watches: &[W],
 ) -> Result<Vec<Reason>, AllocError>
+    requires watched { 0 < length watches.now }
     requires lawful { All (MayBeTarget scenario.now) targets.now }
     requires order { IsOrder scenario.now (ahead.now ++ left.now) }
     requires some { All (λ group. IsTrue (has_target targets.now group)) left.now }
@@ -35,13 +39,37 @@ pub(crate) fn reasons_of<R: Threads + Wait + Sync, W: Watch + Sync>(
     ensures all { IfOk result
         (λ reasons. All (IsReason options.now scenario.now targets.now left.now) reasons.items) }
 {
-    let mut reasons = Vec::new(alloc);
-    for place in 0..left.len() {
-        let reason = reason_for(
+    let reasons = each_reason(rt, alloc, scenario, targets, ahead, left, options, watches)?;
+    all_values(alloc, reasons)?
+}
+
+/// The same for each of these groups by itself.
+fn each_reason<R: Threads + Wait + Sync, W: Watch + Sync>(
+    rt: &R,
+    alloc: Global,
+    scenario: &Scenario,
+    targets: &[Target],
+    ahead: &[usize],
+    left: &[usize],
+    options: &Options,
+    watches: &[W],
+) -> Result<Vec<Result<Reason, AllocError>>, AllocError>
+    requires watched { 0 < length watches.now }
+    requires lawful { All (MayBeTarget scenario.now) targets.now }
+    requires order { IsOrder scenario.now (ahead.now ++ left.now) }
+    requires some { All (λ group. IsTrue (has_target targets.now group)) left.now }
+    ensures { IfOk result (λ reasons. AllZip (MayBeReason options.now scenario.now targets.now left.now)
+        (range_with_len 0 (length left.now)) reasons.items) }
+{
+    let reason = |place: usize, watch: &W| -> Result<Reason, AllocError>
+        requires { MayBeNext scenario.now targets.now ahead.now left.now × (place < length left.now) }
+        ensures { MayBeReason options.entry.now scenario.entry.now targets.entry.now left.entry.now place result }
+    {
+        reason_for(
             rt, alloc, scenario, targets, ahead, left, place, options, watch,
-        )?;
-        reasons.push(reason)?;
-    }
+        )
+    };
+    let reasons = make_rows(rt, alloc, watches, left.len(), &reason)?;
     Ok(reasons)
 }
 
@@ -57,12 +85,9 @@ fn reason_for<R: Threads + Wait + Sync, W: Watch + Sync>(
     options: &Options,
     watch: &W,
 ) -> Result<Reason, AllocError>
-    requires lawful { All (MayBeTarget scenario.now) targets.now }
-    requires order { IsOrder scenario.now (ahead.now ++ left.now) }
-    requires some { All (λ group. IsTrue (has_target targets.now group)) left.now }
+    requires next { MayBeNext scenario.now targets.now ahead.now left.now }
     requires known { place < length left.now }
-    ensures group { IfOk result (λ reason. slice_get left.now place ≡ Some reason.target.group) }
-    ensures reason { IfOk result (IsReason options.now scenario.now targets.now left.now) }
+    ensures { MayBeReason options.now scenario.now targets.now left.now place result }
 {
     let order = with_next(alloc, ahead, left, place)?;
     let group = left[place];

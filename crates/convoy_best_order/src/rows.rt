@@ -1,7 +1,9 @@
 //! How late each target is before and after.
 
-ghost use Rattle.std.specs.Prelude.{◌≡◌, All, IfOk};
-ghost use Rattle.convoy_best_order.specs.Best.{AreRows, IsRow};
+ghost use Rattle.std.specs.Prelude.{◌<◌, length, All, IfOk};
+ghost use Rattle.std.specs.List.{AllZip};
+ghost use Rattle.convoy_best_order.specs.Best.{AreRows};
+ghost use Rattle.convoy_best_order.specs.Each.{MayBeRow};
 ghost use Rattle.convoy_best_order.specs.Orders.{IsOrder};
 ghost use Rattle.convoy_best_order.specs.Targets.{MayBeTarget};
 
@@ -10,13 +12,14 @@ use super::searching::{spread, spread_in};
 use super::target::Target;
 use convoy_branch::Options;
 use convoy_commands::Watch;
+use convoy_rows::{all_values, make_each};
 use convoy_scenario::Scenario;
 use std::alloc::{AllocError, Global};
 use std::sync::Wait;
 use std::thread::Threads;
 
-/// How late each of some targets is with the groups of a scenario as they are, and in that order. Fails where memory runs
-/// out, and else never.
+/// How late each of some targets is with the groups of a scenario as they are, and in that order, as many at a time as
+/// there are watches. Fails where memory runs out, and else never.
 pub(crate) fn rows_of<R: Threads + Wait + Sync, W: Watch + Sync>(
     rt: &R,
     alloc: Global,
@@ -24,17 +27,38 @@ pub(crate) fn rows_of<R: Threads + Wait + Sync, W: Watch + Sync>(
     targets: &[Target],
     order: &[usize],
     options: &Options,
-    watch: &W,
+    watches: &[W],
 ) -> Result<Vec<Row>, AllocError>
+    requires watched { 0 < length watches.now }
     requires lawful { All (MayBeTarget scenario.now) targets.now }
     requires order { IsOrder scenario.now order.now }
     ensures { IfOk result (λ rows. AreRows options.now scenario.now targets.now order.now rows.items) }
 {
-    let mut rows = Vec::new(alloc);
-    for target in targets {
-        let row = row_of(rt, alloc, scenario, *target, order, options, watch)?;
-        rows.push(row)?;
-    }
+    let rows = each_row(rt, alloc, scenario, targets, order, options, watches)?;
+    all_values(alloc, rows)?
+}
+
+/// The row of each of some targets, each by itself.
+fn each_row<R: Threads + Wait + Sync, W: Watch + Sync>(
+    rt: &R,
+    alloc: Global,
+    scenario: &Scenario,
+    targets: &[Target],
+    order: &[usize],
+    options: &Options,
+    watches: &[W],
+) -> Result<Vec<Result<Row, AllocError>>, AllocError>
+    requires watched { 0 < length watches.now }
+    requires lawful { All (MayBeTarget scenario.now) targets.now }
+    requires order { IsOrder scenario.now order.now }
+    ensures { IfOk result
+        (λ rows. AllZip (MayBeRow options.now scenario.now order.now) targets.now rows.items) }
+{
+    let row = |target: &Target, watch: &W| -> Result<Row, AllocError>
+        requires { MayBeTarget scenario.now target.now × IsOrder scenario.now order.now }
+        ensures { MayBeRow options.entry.now scenario.entry.now order.entry.now target.now result }
+    { row_of(rt, alloc, scenario, *target, order, options, watch) };
+    let rows = make_each(rt, alloc, watches, targets, &row)?;
     Ok(rows)
 }
 
@@ -50,8 +74,7 @@ fn row_of<R: Threads + Wait + Sync, W: Watch + Sync>(
 ) -> Result<Row, AllocError>
     requires target { MayBeTarget scenario.now target }
     requires order { IsOrder scenario.now order.now }
-    ensures target { IfOk result (λ row. row.target ≡ target) }
-    ensures row { IfOk result (IsRow options.now scenario.now order.now) }
+    ensures { MayBeRow options.now scenario.now order.now target result }
 {
     let asked = scenario.with_target(target.message, target.group)?;
     let before = spread(rt, alloc, asked, options, watch)?;

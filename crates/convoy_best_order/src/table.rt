@@ -1,6 +1,6 @@
 ghost use Rattle.std.specs.Prelude.{◌≡◌, ◌++◌, true, map, IfOk, OnOk};
 ghost use Rattle.convoy_survey.specs.Times.{where_told};
-ghost use Rattle.convoy_best_order.specs.Cells.{columns_of, line_above, order_columns, order_text, reason_lines, row_cells, table_of, time_columns};
+ghost use Rattle.convoy_best_order.specs.Cells.{columns_of, layout_of, line_above, order_columns, order_text, reason_lines, row_cells, table_of, time_columns};
 
 use super::best::{Best, Reason, Row as Told};
 use super::cells::{reason_cells, row_cells, whole_cells};
@@ -13,7 +13,7 @@ use convoy_tables::{Format, Row, Table, table_text};
 use convoy_times::Measure;
 use std::alloc::{AllocError, Global};
 
-/// The text that tells the best order of a scenario for these targets.
+/// The text that tells the best order of a scenario for those of these targets that count, with the rows of the others.
 pub(crate) fn order_text(
     alloc: Global,
     format: Format,
@@ -22,16 +22,45 @@ pub(crate) fn order_text(
     scenario: &Scenario,
     targets: &[Target],
     best: &Best,
+    others: &[Told],
 ) -> Result<Vec<u8>, AllocError>
-    ensures { IfOk result
-        (λ text. text.items ≡ order_text format with_reasons measure scenario.now targets.now best.now) }
+    ensures { IfOk result (λ text. text.items
+        ≡ order_text format with_reasons measure scenario.now targets.now best.now others.now) }
 {
-    let layout = Layout::of(format, with_reasons, measure, targets);
-    let table = table_of(alloc, with_reasons, &layout, scenario, best)?;
+    let table = order_table(
+        alloc,
+        format,
+        with_reasons,
+        measure,
+        scenario,
+        targets,
+        best,
+        others,
+    )?;
     let lines = table_text(alloc, &table, format)?;
     let mut text = line_above(alloc, format, scenario, &best.order)?;
     text.extend_from_slice(&lines)?;
     Ok(text)
+}
+
+/// The table of the best order of a scenario for those of these targets that count, with the rows of the others: a line for
+/// each of them, one for all that count together, and where reasons are asked for one for each reason. Fails where memory
+/// runs out, and else never.
+pub fn order_table(
+    alloc: Global,
+    format: Format,
+    with_reasons: bool,
+    measure: Option<Measure>,
+    scenario: &Scenario,
+    targets: &[Target],
+    best: &Best,
+    others: &[Told],
+) -> Result<Table, AllocError>
+    ensures { IfOk result (λ table. table
+        ≡ table_of with_reasons (layout_of format with_reasons measure targets.now) scenario.now best.now others.now) }
+{
+    let layout = Layout::of(format, with_reasons, measure, targets);
+    table_of(alloc, with_reasons, &layout, scenario, best, others)
 }
 
 /// The line above a table for people; nothing in the other formats.
@@ -59,11 +88,14 @@ fn table_of(
     layout: &Layout,
     scenario: &Scenario,
     best: &Best,
+    others: &[Told],
 ) -> Result<Table, AllocError>
-    ensures { IfOk result (λ table. table ≡ table_of with_reasons layout.now scenario.now best.now) }
+    ensures { IfOk result
+        (λ table. table ≡ table_of with_reasons layout.now scenario.now best.now others.now) }
 {
     let mut table = Table::new(alloc, columns_of(alloc, layout)?);
     push_rows(alloc, layout, scenario, &best.order, &best.rows, &mut table)?;
+    push_rows(alloc, layout, scenario, &best.order, others, &mut table)?;
     table.push(whole_cells(alloc, layout, scenario, best)?)?;
     if with_reasons {
         push_reasons(alloc, layout, scenario, &best.reasons, &mut table)?;

@@ -1,6 +1,6 @@
 ghost use Rattle.std.specs.Prelude.{◌≡◌};
 ghost use Rattle.convoy_best_order.specs.Spreads.{least_excess, most_excess};
-ghost use Rattle.convoy_best_order.specs.Targets.{limit_of};
+ghost use Rattle.convoy_best_order.specs.Targets.{counts, limit_of};
 
 use super::excess::Excess;
 use super::spread::Spread;
@@ -19,6 +19,13 @@ impl Target {
         ensures { result ≡ limit_of self }
     {
         self.deadline.unwrap_or(0)
+    }
+
+    /// Whether it counts where one of some targets has a deadline, or none has.
+    pub(crate) fn counts(self, is_judged: bool) -> bool
+        ensures { result ≡ counts is_judged self }
+    {
+        !is_judged || self.deadline.is_some()
     }
 
     /// By how much a latency exceeds the limit of the target at least.

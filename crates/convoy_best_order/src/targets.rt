@@ -1,7 +1,7 @@
 ghost use Rattle.std.specs.Prelude.{◌≡◌, ◌<◌, [], ◌++◌, length, IfOk, OnOk};
 ghost use Rattle.std.specs.List.{All, flat_map, list_any};
 ghost use Rattle.convoy_scenario.specs.Scenario.{GoesTo, message_numbers};
-ghost use Rattle.convoy_best_order.specs.Targets.{MayBeTarget, are_judged, has_target, is_at, many_targets, or_asked, target_at, target_with, targets_at, targets_of};
+ghost use Rattle.convoy_best_order.specs.Targets.{MayBeTarget, are_judged, counted, has_target, is_at, many_targets, or_asked, target_at, target_with, targets_at, targets_of, uncounted};
 
 use super::target::Target;
 use super::wanted::Wanted;
@@ -123,8 +123,36 @@ pub(crate) fn has_target(targets: &[Target], group: usize) -> bool
 }
 
 /// Whether one of these targets has a deadline.
-pub(crate) fn are_judged(targets: &[Target]) -> bool
+pub fn are_judged(targets: &[Target]) -> bool
     ensures { result ≡ are_judged targets.now }
 {
     targets.iter().any(|target| target.deadline.is_some())
+}
+
+/// Those of some targets that count: where one of them has a deadline those that have one, and else all.
+pub fn counted(alloc: Global, targets: &[Target]) -> Result<Vec<Target>, AllocError>
+    ensures { IfOk result (λ kept. kept.items ≡ counted targets.now) }
+{
+    let is_judged = are_judged(targets);
+    let mut kept = Vec::new(alloc);
+    for target in targets {
+        if target.counts(is_judged) {
+            kept.push(*target)?;
+        }
+    }
+    Ok(kept)
+}
+
+/// The others.
+pub(crate) fn uncounted(alloc: Global, targets: &[Target]) -> Result<Vec<Target>, AllocError>
+    ensures { IfOk result (λ kept. kept.items ≡ uncounted targets.now) }
+{
+    let is_judged = are_judged(targets);
+    let mut kept = Vec::new(alloc);
+    for target in targets {
+        if !target.counts(is_judged) {
+            kept.push(*target)?;
+        }
+    }
+    Ok(kept)
 }

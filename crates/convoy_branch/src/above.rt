@@ -24,11 +24,56 @@ const MOST_TESTS: u32 = 100;
 /// How many times boxes are split at most until all are closed for a latency.
 const MOST_AIMS: u32 = 24;
 
-/// How many boxes are taken up at most below the root.
-const MOST_BOXES: u32 = 200;
+/// How trees from above go down.
+#[derive(Clone, Copy)]
+struct Descent {
+    /// By what they split boxes.
+    splits: Splits,
+    /// Whether of a split they go down the first half first.
+    first_half_first: bool,
+    /// How many boxes they take up at most.
+    boxes: u32,
+}
 
-/// How many in real time are then split by orders, too.
-const ORDERED_BOXES: u32 = 50;
+impl Descent {
+    /// All, in the order in which they are tried. Which of them soon comes to a run differs from scenario to scenario:
+    /// some come to it within a few boxes, where others do not within thousands.
+    fn all() -> [Descent; 5] {
+        [
+            Descent::by_orders(true, 25),
+            Descent::by_packets(false, 400),
+            Descent::by_packets(true, 50),
+            Descent::by_orders(false, 50),
+            Descent::by_orders(true, 200),
+        ]
+    }
+
+    /// By splits at packets.
+    fn by_packets(first_half_first: bool, boxes: u32) -> Descent {
+        Descent {
+            splits: Splits::Packets,
+            first_half_first,
+            boxes,
+        }
+    }
+
+    /// By orders, too.
+    fn by_orders(first_half_first: bool, boxes: u32) -> Descent {
+        Descent {
+            splits: Splits::Orders,
+            first_half_first,
+            boxes,
+        }
+    }
+
+    /// Whether it is tried in such time: in whole ticks no box is split by orders.
+    fn is_for(self, time: Time) -> bool {
+        match time {
+            Time::Ticks => self.splits == Splits::Packets,
+            Time::Real => true,
+        }
+    }
+}
 
 /// What seeking from above has come to.
 #[derive(Drop)]
@@ -67,8 +112,8 @@ pub fn root_from_above<G: Gate>(
 }
 
 /// The same below the root, where a bound in ticks is known for which leads close it: boxes are split as in a search
-/// by leads that closes them for a latency just below that. Each box that is open has its wish runs simulated. In real
-/// time some trees follow in which boxes are split by orders, too: these soon end what splits at packets alone do not.
+/// by leads that closes them for a latency just below that. Each box that is open has its wish runs simulated. Several
+/// trees are tried, each with few boxes and then again with many; in real time boxes of some are split by orders, too.
 pub fn split_from_above<G: Gate>(
     alloc: Global,
     instance: &Instance,
@@ -81,25 +126,21 @@ pub fn split_from_above<G: Gate>(
     ensures of_scenario { IfOk result (λ found. found.best.scenario ≡ instance.now) }
     ensures no_lower { IfOk result (λ found. known.latency ≤ found.best.latency) }
 {
-    let found = FromAbove { best: known, bound };
-    let splits = Splits::Packets;
-    let found = trees_from_above(alloc, instance, found, splits, MOST_BOXES, limit, gate)?;
-    match instance.time() {
-        Time::Ticks => Ok(found),
-        Time::Real => {
-            let splits = Splits::Orders;
-            trees_from_above(alloc, instance, found, splits, ORDERED_BOXES, limit, gate)
+    let mut found = FromAbove { best: known, bound };
+    for descent in Descent::all() {
+        if descent.is_for(instance.time()) {
+            found = descend(alloc, instance, found, descent, limit, gate)?;
         }
     }
+    Ok(found)
 }
 
-/// The same by trees of at most so many boxes that are split so.
-fn trees_from_above<G: Gate>(
+/// The same by trees that go down so.
+fn descend<G: Gate>(
     alloc: Global,
     instance: &Instance,
     found: FromAbove,
-    splits: Splits,
-    boxes: u32,
+    descent: Descent,
     limit: Limit,
     gate: &G,
 ) -> Result<FromAbove, AllocError>
@@ -109,8 +150,8 @@ fn trees_from_above<G: Gate>(
 {
     let mut bound = found.bound;
     let mut above = Above {
-        splits,
-        boxes,
+        descent,
+        boxes: descent.boxes,
         ..Above::of(alloc, instance, found.best)
     };
     let mut below = 1;
@@ -153,8 +194,8 @@ struct Above<'a> {
     best: Record,
     /// How many boxes may still be taken up.
     boxes: u32,
-    /// By what they are split.
-    splits: Splits,
+    /// How it goes down from one to the next.
+    descent: Descent,
 }
 
 impl<'a> Above<'a> {
@@ -167,8 +208,8 @@ impl<'a> Above<'a> {
             alloc,
             instance,
             best: known,
-            boxes: MOST_BOXES,
-            splits: Splits::Packets,
+            boxes: 0,
+            descent: Descent::by_packets(false, 0),
         }
     }
 
@@ -275,13 +316,35 @@ impl<'a> Above<'a> {
         if let Some(found) = wished(alloc, instance, &branch, &asked, known)? {
             self.best = found;
         }
-        let halves = halves_of(alloc, instance, branch, aim, self.splits, asked.left)?;
+        let halves = next_halves(alloc, instance, branch, aim, self.descent, asked.left)?;
         let Some((first, second)) = halves else {
             return Ok(matches!(instance.time(), Time::Ticks));
         };
         work.push(first)?;
         work.push(second)?;
         Ok(true)
+    }
+}
+
+/// The halves of a region that leads leave open for a latency in ticks; the one that is gone down first is the second.
+/// None where it has neither. The error is that memory ran out.
+fn next_halves(
+    alloc: Global,
+    instance: &Instance,
+    branch: Branch,
+    latency: u32,
+    descent: Descent,
+    left: Option<Box<LeftOpen>>,
+) -> Result<Option<(Branch, Branch)>, AllocError>
+    requires of_scenario { branch.scenario ≡ instance.now }
+    requires left { IfSome left (λ left. IsLeftOpen instance.now branch.region left.value) }
+    ensures { IfOk result (λ found. IfSome found (λ halves.
+        (halves.0.scenario ≡ instance.now) × (halves.1.scenario ≡ instance.now))) }
+{
+    let halves = halves_of(alloc, instance, branch, latency, descent.splits, left)?;
+    match halves {
+        Some((first, second)) if descent.first_half_first => Ok(Some((second, first))),
+        _ => Ok(halves),
     }
 }
 

@@ -9,11 +9,15 @@ use Rattle.convoy_draft.specs.declared.fault.Limit.{Limit}
 use Rattle.convoy_draft.specs.declared.fault.Limit.TheVariants as limits
 use Rattle.convoy_draft.specs.declared.fault.ScenarioFault.{ScenarioFault}
 use Rattle.convoy_draft.specs.declared.fault.ScenarioFault.TheVariants as scenario
+use Rattle.convoy_ranges.specs.declared.fault.Cause.{Cause}
+use Rattle.convoy_ranges.specs.declared.fault.Cause.TheVariants as lines
+use Rattle.convoy_ranges.specs.declared.fault.RangesFault.{RangesFault}
+use Rattle.convoy_ranges.specs.declared.fault.RangesFault.TheVariants as ranges
 use Rattle.convoy_commands.specs.declared.fault.FaultEnding.{FaultEnding}
 use Rattle.convoy_commands.specs.declared.fault.FaultEnding.TheVariants as endings
 use Rattle.convoy_commands.specs.declared.fault.OrderFault.TheVariants as orders
 use Rattle.convoy_commands.specs.declared.fault.Fault.{Fault}
-use Rattle.convoy_commands.specs.declared.fault.Fault.TheVariants.{Scenario, Schedule, Order, Reading, Write, TooManyJobs, Sweep, Memory}
+use Rattle.convoy_commands.specs.declared.fault.Fault.TheVariants.{Scenario, Schedule, Order, Reading, Write, TooManyJobs, Sweep, Ranges, Memory}
 use Rattle.convoy_commands.specs.declared.fault.SweepCause.{SweepCause}
 use Rattle.convoy_commands.specs.declared.fault.SweepCause.TheVariants as sweeps
 
@@ -70,6 +74,25 @@ abbrev pub row_of_sweep : SweepCause → ℕ × List ℕ
 row_of_sweep (sweeps.NoScenario value) = (46, codes "no scenario with " ++ decimal value)
 row_of_sweep cause = (45, codes "no sweep " ++ sweep_word cause)
 
+-- the number of what is wrong with a line of a table of round trips, and the words before the line's number
+abbrev pub row_of_line : Cause → ℕ × List ℕ
+row_of_line lines.Header = (55, codes "unknown header in line ")
+row_of_line lines.Cells = (55, codes "wrong number of cells in line ")
+row_of_line lines.TooMany = (55, codes "too many pairs in line ")
+row_of_line lines.Name = (56, codes "bad name in line ")
+row_of_line lines.Time = (57, codes "no time in line ")
+row_of_line lines.Distance = (58, codes "no distance in line ")
+row_of_line lines.Near = (59, codes "range below a tick in line ")
+row_of_line lines.Crossed = (59, codes "round trip too short in line ")
+row_of_line lines.Wide = (59, codes "range over limit in line ")
+
+-- the number and the text of why such a table gives no ranges
+abbrev pub row_of_ranges : RangesFault → ℕ × List ℕ
+row_of_ranges ranges.TooLong = (55, codes "table too long")
+row_of_ranges ranges.Empty = (55, codes "no round trip")
+row_of_ranges (ranges.Line line cause) = ((row_of_line cause).0, (row_of_line cause).1 ++ decimal line)
+row_of_ranges ranges.Memory = memory_row
+
 -- a fault's number and its text
 abbrev pub row_of : Fault → ℕ × List ℕ
 row_of (Scenario cause) = row_of_scenario cause
@@ -85,6 +108,7 @@ row_of (Reading (reading.TooLong limit)) = (42, codes "job too long")
 row_of TooManyJobs = (43, codes "too many jobs")
 row_of (Reading reading.TooManyReads) = (44, codes "too many reads")
 row_of (Sweep cause) = row_of_sweep cause
+row_of (Ranges cause) = row_of_ranges cause
 row_of (Reading reading.Memory) = memory_row
 row_of Memory = memory_row
 
@@ -111,6 +135,11 @@ told_of_reading cause = Reading cause
 abbrev pub told_of : ScenarioFault → Fault
 told_of scenario.Memory = Memory
 told_of cause = Scenario cause
+
+-- why a table of round trips gives no ranges, as a command tells it
+abbrev pub told_of_ranges : RangesFault → Fault
+told_of_ranges ranges.Memory = Memory
+told_of_ranges cause = Ranges cause
 
 -- a fault of a schedule that was given as a list, as a command tells it
 abbrev pub told_of_list : ListFault → Fault

@@ -8,6 +8,7 @@ pub use Rattle.convoy_toml.specs.Deadlines
 pub use Rattle.convoy_draft.specs.Keys
 pub use Rattle.convoy_times.specs.Measures
 pub use Rattle.convoy_toml.specs.Shape
+pub use Rattle.convoy_ranges.specs.Answers as RangeAnswers
 pub use Rattle.convoy_scenario.specs.Memory
 pub use Rattle.convoy_streams.specs.Devices
 pub use Rattle.convoy_streams.specs.Reads
@@ -53,6 +54,7 @@ pub mod Refusals
 pub mod Replies
 pub mod Schedules
 pub mod First
+pub mod Ranging
 pub mod Checks
 pub mod Inputs
 pub mod Tells

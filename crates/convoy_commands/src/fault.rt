@@ -1,7 +1,8 @@
 ghost use Rattle.std.specs.Prelude.{◌≡◌, ◌≤◌, ◌++◌, length, OnOk, OnErr, IfOk, string_bytes};
-ghost use Rattle.convoy_commands.specs.Faults.{IsShortEnding, ending_text, fault_line_of, limit_word, row_of, row_of_scenario, sweep_word, told_of_order};
+ghost use Rattle.convoy_commands.specs.Faults.{IsShortEnding, ending_text, fault_line_of, limit_word, row_of, row_of_line, row_of_ranges, row_of_scenario, sweep_word, told_of_order};
 
 use convoy_packets::ListFault;
+use convoy_ranges::{Cause, RangesFault};
 use convoy_scenario::{Limit, ScenarioFault};
 use convoy_streams::ReadFault;
 use std::alloc::{AllocError, Global};
@@ -36,6 +37,9 @@ pub enum Fault {
     /// The keys of a text can't be given the values that a sweep is to give them.
     #[error(transparent)]
     Sweep(SweepCause),
+    /// A table of round trips gives no ranges.
+    #[error(transparent)]
+    Ranges(RangesFault),
     /// Memory ran out, which says nothing of the input.
     #[error("out of memory")]
     Memory,
@@ -136,6 +140,20 @@ impl From<ScenarioFault> for Fault {
     }
 }
 
+impl From<RangesFault> for Fault {
+    ghost use Rattle.std.specs.Prelude.{◌≡◌};
+    ghost use Rattle.convoy_commands.specs.Faults.{told_of_ranges};
+
+    ghost from_gives = { λ cause fault. fault ≡ told_of_ranges cause };
+
+    fn from(cause: RangesFault) -> Self {
+        match cause {
+            RangesFault::Memory => Fault::Memory,
+            cause => Fault::Ranges(cause),
+        }
+    }
+}
+
 impl From<ListFault> for Fault {
     ghost use Rattle.std.specs.Prelude.{◌≡◌};
     ghost use Rattle.convoy_commands.specs.Faults.{told_of_list};
@@ -221,6 +239,7 @@ pub fn fault_row(fault: &Fault) -> (u8, &'static str, FaultEnding)
             FaultEnding::Number(*value as usize),
         ),
         Fault::Sweep(cause) => (45, "no sweep ", FaultEnding::Word(word_of_sweep(*cause))),
+        Fault::Ranges(cause) => ranges_row(*cause),
         Fault::Memory | Fault::Schedule(ListFault::Memory) | Fault::Reading(ReadFault::Memory) => (
             11,
             "out of memory",
@@ -247,6 +266,42 @@ fn word_of_sweep(cause: SweepCause) -> &'static str
         SweepCause::OneValue => "one value",
         SweepCause::KeyTwice => "key twice",
         SweepCause::NoScenario(_) => "",
+    }
+}
+
+/// The same of a table of round trips.
+fn ranges_row(fault: RangesFault) -> (u8, &'static str, FaultEnding)
+    ensures number { result.0 ≡ (row_of_ranges fault).0 }
+    ensures text { result.1.now ++ ending_text result.2 ≡ (row_of_ranges fault).1 }
+    ensures short { (length result.1.now ≤ 64) × IsShortEnding result.2 }
+{
+    match fault {
+        RangesFault::TooLong => (55, "table too long", NOTHING),
+        RangesFault::Empty => (55, "no round trip", NOTHING),
+        RangesFault::Line(line, cause) => {
+            let (number, phrase) = line_row(cause);
+            (number, phrase, FaultEnding::Number(line))
+        }
+        RangesFault::Memory => (11, "out of memory", NOTHING),
+    }
+}
+
+/// The number of what is wrong with a line of such a table, and the phrase before the line's number.
+fn line_row(cause: Cause) -> (u8, &'static str)
+    ensures number { result.0 ≡ (row_of_line cause).0 }
+    ensures text { result.1.now ≡ (row_of_line cause).1 }
+    ensures short { length result.1.now ≤ 64 }
+{
+    match cause {
+        Cause::Header => (55, "unknown header in line "),
+        Cause::Cells => (55, "wrong number of cells in line "),
+        Cause::TooMany => (55, "too many pairs in line "),
+        Cause::Name => (56, "bad name in line "),
+        Cause::Time => (57, "no time in line "),
+        Cause::Distance => (58, "no distance in line "),
+        Cause::Near => (59, "range below a tick in line "),
+        Cause::Crossed => (59, "round trip too short in line "),
+        Cause::Wide => (59, "range over limit in line "),
     }
 }
 

@@ -17,6 +17,7 @@ pub use fault::{Fault, FaultEnding, OrderFault, SweepCause, fault_line, fault_ro
 pub use first::first_answer;
 pub use latency::latency_answer;
 pub use limits::{DEFAULT_STEPS, LONGEST_CERTIFICATE, LONGEST_JOB, MOST_STEPS};
+pub use ranging::ranges_answer;
 pub use reply_lines::push_ceiling;
 pub use search::search_instance;
 pub use telling::{Telling, tell};
@@ -34,6 +35,7 @@ mod fault;
 mod first;
 mod latency;
 mod limits;
+mod ranging;
 mod refusal;
 mod reply_lines;
 mod scheduled;

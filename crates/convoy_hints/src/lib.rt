@@ -18,7 +18,7 @@ pub use job_hints::hint_for_batch;
 pub use search_hints::{
     hint_for_both, hint_for_ceiling, hint_for_changes, hint_for_first, hint_for_greatest,
     hint_for_late_certificate, hint_for_late_message, hint_for_leads, hint_for_limit,
-    hint_for_seconds, hint_for_tickets,
+    hint_for_order, hint_for_seconds, hint_for_tickets,
 };
 
 mod body;

@@ -55,6 +55,14 @@ pub fn hint_for_late_certificate(alloc: Global) -> Result<String, AllocError> {
     )
 }
 
+/// What a best order of the groups means in a running system, in one line `hint: ..`: which numbers break ties.
+pub fn hint_for_order(alloc: Global) -> Result<String, AllocError> {
+    String::from_str(
+        alloc,
+        "hint: to have this order, let the groups break ties by numbers that rise in it: a single deadline is kept best at the group with the greatest\n",
+    )
+}
+
 /// What a table of changes says of a scenario whose greatest latency is the ceiling of messages of these kinds at the
 /// target's group, in one line `hint: ..`: little, since its times of issue are tuned to that. None where it is below the
 /// ceiling.

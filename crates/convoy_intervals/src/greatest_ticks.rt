@@ -1,7 +1,7 @@
 ghost use Rattle.std.specs.Prelude.{◌≡◌};
 
 use super::delay_box::DelayBox;
-use super::times::{arrivals, settlings};
+use super::times::{arrivals, issues, settlings};
 use super::tracked::Tracked;
 use convoy_packets::Instance;
 use convoy_scenario::Scenario;
@@ -29,6 +29,10 @@ impl<'a> Ticks for GreatestTicks<'a> {
     fn scenario(&self) -> &Scenario {
         let _delay_box = self.tracked.delay_box();
         self.instance.scenario()
+    }
+
+    fn issue(&self, message: usize) -> u32 {
+        issues(self.instance, self.tracked.delay_box(), message).1
     }
 
     fn arrival(&self, message: usize, group: usize) -> u32 {
@@ -76,6 +80,10 @@ impl<'a> Ticks for BoxTicks<'a> {
 
     fn scenario(&self) -> &Scenario {
         self.instance.scenario()
+    }
+
+    fn issue(&self, message: usize) -> u32 {
+        issues(self.instance, self.delay_box, message).1
     }
 
     fn arrival(&self, message: usize, group: usize) -> u32 {

@@ -25,7 +25,7 @@ fn range_of(delay_box: &DelayBox, place: Option<u16>) -> (u16, u16)
 
 /// The least and the greatest tick at which a message is issued, over the members of a box: those of
 /// the box's least and greatest waits.
-fn issues(instance: &Instance, delay_box: &DelayBox, message: usize) -> Window
+pub(crate) fn issues(instance: &Instance, delay_box: &DelayBox, message: usize) -> Window
     requires known { message < length instance.now.multicasts }
     requires inside { IsBox instance.now delay_box.now }
     ensures least { result.0 ≡ issue instance.now (least_of delay_box.now) message }

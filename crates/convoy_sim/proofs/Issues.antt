@@ -4,7 +4,7 @@ use Rattle.convoy_scenario.specs.Scenario.{Scenario, message_at, may_wait}
 use Rattle.convoy_packets.specs.declared.packet.Packet.TheVariants.{Wait}
 use Rattle.convoy_packets.specs.Assignment.{Schedule, delay_of}
 use Rattle.convoy_packets.proofs.Ranges.{no_time_if_unsent, wait_at_most}
-use Rattle.convoy_sim.specs.ProtocolLaws.{IssuedAtItsTick, IssuedFromItsTick, IssuedWithinItsWait, TargetIsIssuedAtItsTick}
+use Rattle.convoy_sim.specs.ProtocolLaws.{IssuedAtItsTick, IssuedFromItsTick, IssuedWithinItsWait}
 
 pub from_its_tick : IssuedFromItsTick
 from_its_tick plan schedule m = omega arith
@@ -20,6 +20,3 @@ no_wait plan schedule m none =
 
 pub at_its_tick : IssuedAtItsTick
 at_its_tick plan schedule m none = let wait = no_wait plan schedule m none in omega arith
-
-pub target_at_its_tick : TargetIsIssuedAtItsTick
-target_at_its_tick plan schedule well = at_its_tick plan schedule plan.target_message well.fixed

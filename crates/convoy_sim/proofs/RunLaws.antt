@@ -17,7 +17,6 @@ use Rattle.convoy_sim.proofs.Membership.{IsIn, in_greatest, greatest_is_one}
 use Rattle.convoy_sim.proofs.Addressed.{number_of_goes, in_of_ahead}
 use Rattle.convoy_sim.proofs.StampLaws.{finals_differ}
 use Rattle.convoy_sim.proofs.DeliveryTick.{in-ahead, delivery_law, never_negative}
-use Rattle.convoy_sim.proofs.Issues.{target_at_its_tick}
 use Rattle.convoy_sim.proofs.LatencyBounds.{order_law, within_four, lone_within_two}
 
 module _ (plan : Scenario) (schedule : Schedule) (run : Run) (well : IsScenario plan) (is : IsRunOf plan schedule run) where
@@ -128,12 +127,11 @@ module _ (plan : Scenario) (schedule : Schedule) (run : Run) (well : IsScenario 
         let d = delivered_is m g tick at in
         omega (arith, d.1, lone_within_two plan schedule well assigned m g d.0 (λ n goes. alone n _ (is.delivered n g goes)))
 
-  latency : delivered_of run plan.target_message plan.target_group ≡ Some ((message_at plan plan.target_message).at + run.latency)
+  latency : delivered_of run plan.target_message plan.target_group ≡ Some (issue plan schedule plan.target_message + run.latency)
   unfolding latency_of latency_at
   latency =
       let late = never_negative plan schedule well plan.target_message plan.target_group well.addressed in
-      let at_once = target_at_its_tick plan schedule well in
-      is.delivered plan.target_message plan.target_group well.addressed ∙ ap Some (omega (arith, late, at_once, is.latency))
+      is.delivered plan.target_message plan.target_group well.addressed ∙ ap Some (omega (arith, late, is.latency))
 
 pub runs_keep_the_laws : RunsKeepTheLaws
 runs_keep_the_laws plan schedule run well assigned is = record {

@@ -71,12 +71,6 @@ IssuedAtItsTick =
     (scenario : Scenario) (schedule : Schedule) → (m : ℕ) → (message_at scenario m).longest_wait ≡ 0
     → issue scenario schedule m ≡ (message_at scenario m).at
 
--- The target is issued at its tick, in every schedule.
-abbrev pub TargetIsIssuedAtItsTick : Type 0
-TargetIsIssuedAtItsTick =
-    (scenario : Scenario) (schedule : Schedule) → IsScenario scenario
-    → issue scenario schedule scenario.target_message ≡ (message_at scenario scenario.target_message).at
-
 -- A message arrives at a group no sooner than it is issued.
 abbrev pub ArrivesAfterIssue : Type 0
 ArrivesAfterIssue =

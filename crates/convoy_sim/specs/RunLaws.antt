@@ -40,7 +40,7 @@ pub record KeepsLaws (scenario : Scenario) (schedule : Schedule) (run : Run) : T
   pub order : (m n g : ℕ) (mine other : Tick) → IsStampedBefore run m n → delivered_of run m g ≡ Some mine → delivered_of run n g ≡ Some other → mine ≤ other
   pub four_delays : (m g : ℕ) (tick : Tick) → delivered_of run m g ≡ Some tick → tick ≤ issue scenario schedule m + 4 * scenario.delay
   pub two_delays : (m g : ℕ) (tick : Tick) → IsAloneAt run m g → delivered_of run m g ≡ Some tick → tick ≤ issue scenario schedule m + 2 * scenario.delay
-  pub latency : delivered_of run scenario.target_message scenario.target_group ≡ Some ((message_at scenario scenario.target_message).at + run.latency)
+  pub latency : delivered_of run scenario.target_message scenario.target_group ≡ Some (issue scenario schedule scenario.target_message + run.latency)
 
 -- Every run of a scenario under an assignment keeps the laws.
 abbrev pub RunsKeepTheLaws : Type 0

@@ -6,7 +6,6 @@ ghost use Rattle.convoy_sim.specs.ProtocolLaws.{
   IssuedFromItsTick,
   IssuedWithinItsWait,
   IssuedAtItsTick,
-  TargetIsIssuedAtItsTick,
   ArrivesAfterIssue,
   ArrivesBeforeCommit,
   ArrivesWithinOneDelay,
@@ -97,12 +96,6 @@ pub fn issued_within_its_wait()
 #[tactic(auto, using(crate::proofs::Issues::at_its_tick))]
 pub fn issued_at_its_tick()
     ensures { IssuedAtItsTick }
-{}
-
-/// The target is issued at its tick, in every schedule.
-#[tactic(auto, using(crate::proofs::Issues::target_at_its_tick))]
-pub fn target_is_issued_at_its_tick()
-    ensures { TargetIsIssuedAtItsTick }
 {}
 
 /// A message arrives at a group no sooner than it is issued.

@@ -12,6 +12,7 @@ use super::progress::list_progress;
 use super::protocol_laws::runs_keep_the_laws;
 use super::run::Run;
 use super::stamps::Stamps;
+use super::ticks::Ticks;
 use super::times::Times;
 use super::timetable::Timetable;
 use convoy_packets::{Instance, Schedule};
@@ -46,5 +47,5 @@ pub fn simulate(alloc: Global, instance: &Instance, schedule: &Schedule) -> Resu
     let delivered = delivery_tick(&times, &stamps, message, group);
     let finals = stamps.finals(alloc, instance.message_count())?;
     let progress = list_progress(alloc, &times, &stamps)?;
-    Ok(Run::new(finals, progress, delivered - instance.issue_tick(message)))
+    Ok(Run::new(finals, progress, delivered - times.issue(message)))
 }

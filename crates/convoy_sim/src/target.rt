@@ -38,5 +38,5 @@ pub fn latency_by<T: Ticks>(times: &T) -> u32
     let mut agenda = Agenda::new();
     agenda.fill(times, &commit);
     let stamps = Stamps::of(&agenda);
-    delivery_tick(times, &stamps, message, group) - scenario.issue_tick(message)
+    delivery_tick(times, &stamps, message, group) - times.issue(message)
 }

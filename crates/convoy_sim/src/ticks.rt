@@ -2,7 +2,7 @@ ghost use Rattle.std.specs.Prelude.{◌≡◌, ◌<◌, length};
 ghost use Rattle.convoy_scenario.specs.WellFormed.{IsScenario};
 ghost use Rattle.convoy_packets.specs.Assignment.{IsAssignment};
 ghost use Rattle.convoy_sim.specs.Scheduled.{Scheduled};
-ghost use Rattle.convoy_sim.specs.Times.{arrive, settle};
+ghost use Rattle.convoy_sim.specs.Times.{arrive, issue, settle};
 ghost use Rattle.convoy_sim.specs.Moments.{arrival_rank, commit_rank};
 
 use convoy_scenario::Scenario;
@@ -19,6 +19,11 @@ pub trait Ticks {
         ensures lawful { IsScenario (scheduled self.now).scenario }
         ensures assignment { IsAssignment (scheduled self.now).scenario
             (scheduled self.now).schedule };
+
+    /// The tick at which the message is issued.
+    fn issue(&self, message: usize) -> u32
+        requires { message < length (scheduled self.now).scenario.multicasts }
+        ensures { result ≡ issue (scheduled self.now).scenario (scheduled self.now).schedule message };
 
     /// The tick at which the message arrives at the group.
     fn arrival(&self, message: usize, group: usize) -> u32

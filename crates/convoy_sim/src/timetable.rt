@@ -74,6 +74,10 @@ impl<'a> Ticks for Timetable<'a> {
         self.times.scenario()
     }
 
+    fn issue(&self, message: usize) -> u32 {
+        self.times.issue(message)
+    }
+
     fn arrival(&self, message: usize, group: usize) -> u32 {
         let arrivals = &self.arrivals;
         arrivals[place(message, group)]

@@ -7,3 +7,4 @@ pub mod Loops
 pub mod CoveredTicks
 pub mod SteadyStarts
 pub mod MostLaws
+pub mod Rooms

@@ -23,6 +23,10 @@ abbrev pub told_latency : Result ℕ AllocError → Option ℕ
 told_latency (Ok latency) = Some latency
 told_latency (Err error) = None
 
+-- the message and the group
+abbrev pub ceiled_target : Ceiled → ℕ × ℕ
+ceiled_target row = (row.message, row.group)
+
 -- The row tells the ceiling of its message at its group, above which no message of the kind has a latency there in traffic of the scenario's kinds, and what the search for traffic with that target answered, where such answers may be given: so it tells no latency just where the answer was that memory ran out.
 pub record IsCeiledBy (scenario : Scenario) (may_answer : ℕ → ℕ → Result ℕ AllocError → Type 0) (row : Ceiled) : Type 0 where
   pub ceiling : row.ceiling ≡ ceiling_at scenario row.message row.group
@@ -30,6 +34,11 @@ pub record IsCeiledBy (scenario : Scenario) (may_answer : ℕ → ℕ → Result
   pub answer : Result ℕ AllocError
   pub given : may_answer row.message row.group answer
   pub told : row.attained ≡ told_latency answer
+
+-- The row is that of the target, and tells its ceiling and what may be answered for it.
+pub record TellsCeiling (scenario : Scenario) (may_answer : ℕ → ℕ → Result ℕ AllocError → Type 0) (target : ℕ × ℕ) (row : Ceiled) : Type 0 where
+  pub of_target : ceiled_target row ≡ target
+  pub told : IsCeiledBy scenario may_answer row
 
 -- what a search for traffic with that target may answer: a latency that traffic attains, no more than the ceiling; or, as with each command, that memory ran out
 abbrev pub MaySeek : Scenario → ℕ → ℕ → Result ℕ AllocError → Type 0
@@ -39,10 +48,6 @@ MaySeek scenario m g answer =
 -- the row tells what a search for traffic answered for its target
 abbrev pub IsCeiled : Scenario → Ceiled → Type 0
 IsCeiled scenario row = IsCeiledBy scenario (MaySeek scenario) row
-
--- the message and the group
-abbrev pub ceiled_target : Ceiled → ℕ × ℕ
-ceiled_target row = (row.message, row.group)
 
 -- what happens at this group is asked for: at any group where none is named, else at the one of that name
 abbrev pub is_asked : Scenario → Option (List ℕ) → ℕ → Bool

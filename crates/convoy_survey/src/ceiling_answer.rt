@@ -1,4 +1,4 @@
-ghost use Rattle.std.specs.Prelude.{◌≡◌, is_none, option_map};
+ghost use Rattle.std.specs.Prelude.{◌≡◌, ◌<◌, is_none, length, option_map};
 ghost use Rattle.std.specs.List.{list_any};
 ghost use Rattle.convoy_draft.specs.Checks.{is_among};
 ghost use Rattle.convoy_commands.specs.Replies.{SaysUnlessMemory, reply_of};
@@ -16,6 +16,7 @@ use convoy_tables::Format;
 use convoy_times::Measure;
 use convoy_toml::{Asked, read_toml_asked};
 use std::alloc::Global;
+use std::thread::Threads;
 
 /// The ceilings of the scenario of a text: a table with a row for each message at each group that it goes to, and
 /// below them one for the message at all its groups, with the greatest of their numbers; or only with a row for each
@@ -23,7 +24,8 @@ use std::alloc::Global;
 /// matter. A row has the ceiling and the greatest latency that is found in traffic of the scenario's kinds by at most
 /// `simulations` simulations for the row, as [`ceiling_answer`](convoy_commands::ceiling_answer) tells both of a target:
 /// in ticks, and where times are told ([`Times::of`]) in the unit that is asked for or else the text writes, too. Where a
-/// message has a deadline, columns tell how latencies in traffic keep that of a row's own message.
+/// message has a deadline, columns tell how latencies in traffic keep that of a row's own message. As many rows are made
+/// at a time as there are watches.
 ///
 /// It ends as `Done::Fine` where each row keeps the deadline of its message, or where that has none its latency is its
 /// ceiling. It ends as `Done::Beyond` where the latency of one is above its deadline, and else as `Done::Open` where one
@@ -33,7 +35,8 @@ use std::alloc::Global;
 ///
 /// Faults of the whole are `Fault::Scenario`, where the text is that of no scenario, or where none of its groups has
 /// the name that is given, with `ScenarioFault::UnknownGroup` as its cause; and `Fault::Memory`.
-pub fn ceilings_answer(
+pub fn ceilings_answer<R: Threads + Sync, W: Sync>(
+    rt: &R,
     alloc: Global,
     format: Format,
     asked: &Asked,
@@ -41,7 +44,9 @@ pub fn ceilings_answer(
     group: Option<&str>,
     simulations: u64,
     text: &[u8],
+    watches: &[W],
 ) -> Result<Answer, Fault>
+    requires { 0 < length watches.now }
     ensures { SaysUnlessMemory (CeilingsSay format asked.now unit (option_map (λ name. name.now) group.entry))
         text.now (reply_of result) }
 {
@@ -52,7 +57,7 @@ pub fn ceilings_answer(
     if !has_group(&scenario, group) {
         return Err(Fault::Scenario(ScenarioFault::UnknownGroup));
     }
-    let rows = ceilings_of(alloc, &scenario, group, simulations)?;
+    let rows = ceilings_of(rt, alloc, &scenario, group, simulations, watches)?;
     let times = Times::of(format, Measure::of(&scenario, unit, input.unit));
     let deadlines = input.deadlines.as_slice();
     let text = ceilings_text(

@@ -1,89 +1,92 @@
-ghost use Rattle.std.specs.Prelude.{◌≡◌, ◌<◌, ◌≤◌, ◌++◌, filter, length, map, option_map, IfOk, OnOk};
+ghost use Rattle.std.specs.Prelude.{◌≡◌, ◌<◌, ◌≤◌, length, option_map, IfOk};
 ghost use Rattle.std.specs.List.{All};
-ghost use Rattle.convoy_scenario.specs.Targets.{targets_at, with_target};
+ghost use Rattle.convoy_scenario.specs.Targets.{with_target};
 ghost use Rattle.convoy_ceiling.specs.Ceiling.{ceiling_at};
-ghost use Rattle.convoy_survey.specs.Ceilings.{AreCeiled, AreCeiledBy, IsAttainedInTraffic, IsCeiledBy, ceiled_target, is_asked, told_latency};
-ghost use Rattle.convoy_survey.specs.Surveys.{IsTarget, TakesTargets};
+ghost use Rattle.convoy_survey.specs.Ceilings.{AreCeiled, AreCeiledBy, IsAttainedInTraffic, MaySeek, TellsCeiling, is_asked, targets_asked, told_latency};
+ghost use Rattle.convoy_survey.specs.Surveys.{IsTarget, IsTargetPair, TakesTargets};
 
 use super::ceiled::Ceiled;
+use super::rows::targets_of;
 use convoy_ceiling::{ceiling, seek_traffic};
+use convoy_rows::make_each;
 use convoy_scenario::Scenario;
 use convoy_scenario::naming::group_name;
 use std::alloc::{AllocError, Global};
+use std::thread::Threads;
 
 /// The ceiling of each message of a scenario that does not wait, at each group that it goes to, in the
 /// order of their numbers; where a group is named, at that group alone. For each of them traffic that
 /// attains the ceiling is sought by at most so many simulations. Where memory runs out for one of them,
 /// nothing is told of its traffic, and the others are sought all the same. Where no group has the name
-/// there are no rows. Fails where there is no memory for the rows, and else never.
-pub fn ceilings_of(
+/// there are no rows. As many rows are made at a time as there are watches, of which nothing else is asked.
+/// Fails where there is no memory for the rows, and else never.
+pub fn ceilings_of<R: Threads + Sync, W: Sync>(
+    rt: &R,
     alloc: Global,
     scenario: &Scenario,
     group: Option<&str>,
     simulations: u64,
+    watches: &[W],
 ) -> Result<Vec<Ceiled>, AllocError>
+    requires { 0 < length watches.now }
     ensures { IfOk result (λ rows. AreCeiled scenario.now
         (option_map (λ name. name.now) group.entry) rows.items) }
 {
-    ceilings_by(
-        alloc,
-        scenario,
-        group,
-        |message: usize, group: usize| -> Result<u32, AllocError>
-            requires { IsTarget scenario.now message group }
-            ensures attained { IfOk result
-                (IsAttainedInTraffic (with_target scenario.entry.now message group)) }
-            ensures within { IfOk result
-                (λ latency. latency ≤ ceiling_at scenario.entry.now message group) }
-        { seek_at(alloc, scenario, message, group, simulations) },
-    )
+    let seek = |message: usize, group: usize| -> Result<u32, AllocError>
+        requires { IsTarget scenario.now message group }
+        ensures { MaySeek scenario.entry.now message group result }
+    { seek_at(alloc, scenario, message, group, simulations) };
+    let rows = ceilings_by(rt, alloc, scenario, group, watches, &seek)?;
+    Ok(rows)
 }
 
 /// The rows of [`ceilings_of`], where a search of the caller's own seeks traffic: it is given the numbers of a
 /// message and of a group that it goes to, and answers a latency. A row tells what `seek` answers for its target, and
 /// no latency just where that is that memory ran out. Fails where there is no memory for the rows, and else never.
-pub fn ceilings_by<F: Fn(usize, usize) -> Result<u32, AllocError>>(
+pub fn ceilings_by<
+    R: Threads + Sync,
+    W: Sync,
+    F: Fn(usize, usize) -> Result<u32, AllocError> + Sync,
+>(
+    rt: &R,
     alloc: Global,
     scenario: &Scenario,
     group: Option<&str>,
-    seek: F,
+    watches: &[W],
+    seek: &F,
 ) -> Result<Vec<Ceiled>, AllocError>
-    requires { TakesTargets scenario.now (F.pre seek) }
+    requires watched { 0 < length watches.now }
+    requires takes { TakesTargets scenario.now (F.pre seek.now) }
     ensures { IfOk result (λ rows. AreCeiledBy scenario.now
-        (option_map (λ name. name.now) group.entry) (F.post seek) rows.items) }
+        (option_map (λ name. name.now) group.entry) (F.post seek.now) rows.items) }
 {
-    let mut rows = Vec::new(alloc);
-    for message in 0..scenario.message_count() {
-        push_message(scenario, group, &seek, message, &mut rows)?;
-    }
+    let targets = targets_asked(alloc, scenario, group)?;
+    let row = |target: &(usize, usize), _watch: &W| -> Ceiled
+        requires { IsTargetPair scenario.now target.now × F.pre seek.now target.now.0 target.now.1 }
+        ensures { TellsCeiling scenario.entry.now (F.post seek.entry.now) target.now result }
+    { row_by(scenario, *target, seek) };
+    let rows = make_each(rt, alloc, watches, &targets, &row)?;
     Ok(rows)
 }
 
-/// Appends the rows of a message at the groups that are asked for, unless it may wait.
-fn push_message<F: Fn(usize, usize) -> Result<u32, AllocError>>(
+/// The targets of a scenario at the groups that are asked for.
+fn targets_asked(
+    alloc: Global,
     scenario: &Scenario,
     asked: Option<&str>,
-    seek: &F,
-    message: usize,
-    rows: &mut Vec<Ceiled>,
-) -> Result<(), AllocError>
-    requires takes { TakesTargets scenario.now (F.pre seek.now) }
-    requires known { message < length scenario.now.multicasts }
-    requires told { All (IsCeiledBy scenario.now (F.post seek.now)) rows.old.items }
-    ensures targets { OnOk result (map ceiled_target rows.new.items ≡ map ceiled_target rows.old.items
-        ++ filter (λ target. is_asked scenario.now (option_map (λ name. name.now) asked.entry) target.1)
-        (targets_at scenario.now message)) }
-    ensures told { OnOk result (All (IsCeiledBy scenario.now (F.post seek.now)) rows.new.items) }
+) -> Result<Vec<(usize, usize)>, AllocError>
+    ensures targets { IfOk result (λ kept. kept.items
+        ≡ targets_asked scenario.now (option_map (λ name. name.now) asked.entry)) }
+    ensures lawful { IfOk result (λ kept. All (IsTargetPair scenario.now) kept.items) }
 {
-    if 0 < scenario.longest_wait(message) {
-        return Ok(());
-    }
-    for group in scenario.destinations(message) {
-        if is_asked(scenario, asked, *group) {
-            rows.push(row_by(scenario, message, *group, seek))?;
+    let targets = targets_of(alloc, scenario)?;
+    let mut kept = Vec::new(alloc);
+    for target in &targets {
+        if is_asked(scenario, asked, target.1) {
+            kept.push(*target)?;
         }
     }
-    Ok(())
+    Ok(kept)
 }
 
 /// Whether what happens at a group is asked for.
@@ -96,18 +99,17 @@ fn is_asked(scenario: &Scenario, asked: Option<&str>, group: usize) -> bool
     }
 }
 
-/// The row of a message at a group that it goes to.
+/// The row of a message at a group.
 fn row_by<F: Fn(usize, usize) -> Result<u32, AllocError>>(
     scenario: &Scenario,
-    message: usize,
-    group: usize,
+    target: (usize, usize),
     seek: &F,
 ) -> Ceiled
-    requires known { message < length scenario.now.multicasts }
-    requires takes { F.pre seek.now message group }
-    ensures target { ceiled_target result ≡ (message, group) }
-    ensures told { IsCeiledBy scenario.now (F.post seek.now) result }
+    requires target { IsTargetPair scenario.now target }
+    requires takes { F.pre seek.now target.0 target.1 }
+    ensures { TellsCeiling scenario.now (F.post seek.now) target result }
 {
+    let (message, group) = target;
     Ceiled {
         message,
         group,

@@ -86,7 +86,10 @@ fn row_by<W, F: Fn(usize, usize, &W) -> Result<Finding, AllocError>>(
 }
 
 /// Each message of a scenario at each group that it goes to, but for messages that may wait.
-fn targets_of(alloc: Global, scenario: &Scenario) -> Result<Vec<(usize, usize)>, AllocError>
+pub(crate) fn targets_of(
+    alloc: Global,
+    scenario: &Scenario,
+) -> Result<Vec<(usize, usize)>, AllocError>
     ensures targets { IfOk result (λ targets. targets.items ≡ targets_of scenario.now) }
     ensures lawful { IfOk result (λ targets. All (IsTargetPair scenario.now) targets.items) }
 {

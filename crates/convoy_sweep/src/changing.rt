@@ -3,10 +3,11 @@
 ghost use Rattle.std.specs.Prelude.{◌≡◌, map, option_map, pos, IfOk};
 ghost use Rattle.convoy_sweep.specs.Keys.{at_with, counted, delay_with, last_of, least_with, link_with, message_with, most_with, until_with, with_key};
 
-use super::copying::{copy_ends, copy_name, copy_names};
 use super::keys::names_link;
 use super::kinds::{Given, SweepKey};
-use convoy_toml::{WrittenLink, WrittenMulticast, WrittenScenario, WrittenTime};
+use convoy_toml::{
+    WrittenLink, WrittenMulticast, WrittenScenario, WrittenTime, copy_ends, copy_name, copy_names,
+};
 use std::alloc::{AllocError, Global};
 
 /// What is written where the key has that value, and all else is as it was, in memory of its own. Fails where memory runs

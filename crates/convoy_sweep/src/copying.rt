@@ -1,11 +1,9 @@
-//! Settings, names, and where links lead, in memory of their own. Each call fails where memory runs out, and else never.
+//! Settings in memory of their own. Each call fails where memory runs out, and else never.
 
-ghost use Rattle.std.specs.Prelude.{◌≡◌, option_map, IfOk};
+ghost use Rattle.std.specs.Prelude.{◌≡◌, IfOk};
 
 use super::kinds::{Setting, SweepKey};
-use convoy_scenario::Name;
-use convoy_toml::LinkEnds;
-use std::alloc::{AllocError, Global};
+use std::alloc::AllocError;
 
 /// The same setting.
 pub(crate) fn copy_setting(setting: &Setting) -> Result<Setting, AllocError>
@@ -29,48 +27,5 @@ fn copy_key(key: &SweepKey) -> Result<SweepKey, AllocError>
         SweepKey::Until(name) => Ok(SweepKey::Until(name.copy()?)),
         SweepKey::Least(name) => Ok(SweepKey::Least(name.copy()?)),
         SweepKey::Most(name) => Ok(SweepKey::Most(name.copy()?)),
-    }
-}
-
-/// The same name, if there is one.
-pub(crate) fn copy_name(name: &Option<Name>) -> Result<Option<Name>, AllocError>
-    ensures { IfOk result (λ copy. copy ≡ name.now) }
-{
-    match name {
-        Some(name) => Ok(Some(name.copy()?)),
-        None => Ok(None),
-    }
-}
-
-/// The same names.
-pub(crate) fn copy_names(alloc: Global, names: &[Name]) -> Result<Vec<Name>, AllocError>
-    ensures { IfOk result (λ copies. copies.items ≡ names.now) }
-{
-    let mut copies = Vec::new(alloc);
-    for name in names {
-        copies.push(name.copy()?)?;
-    }
-    Ok(copies)
-}
-
-/// The same ends of links.
-pub(crate) fn copy_ends(alloc: Global, ends: &LinkEnds) -> Result<LinkEnds, AllocError>
-    ensures { IfOk result (λ copy. copy ≡ ends.now) }
-{
-    Ok(LinkEnds {
-        senders: copy_senders(alloc, &ends.senders)?,
-        to: copy_names(alloc, &ends.to)?,
-        both: ends.both,
-    })
-}
-
-/// The same senders, if there are any.
-fn copy_senders(alloc: Global, senders: &Option<Vec<Name>>) -> Result<Option<Vec<Name>>, AllocError>
-    ensures { IfOk result (λ copies. option_map (λ names. names.items) copies
-        ≡ option_map (λ names. names.items) senders.now) }
-{
-    match senders {
-        Some(names) => Ok(Some(copy_names(alloc, names)?)),
-        None => Ok(None),
     }
 }

@@ -3,8 +3,7 @@
 ghost use Rattle.std.specs.Prelude.{◌≡◌, ◌⊎◌, Ok, Err, IfOk, IfErr};
 ghost use Rattle.convoy_draft.specs.declared.fault.ScenarioFault.TheVariants.{Memory};
 ghost use Rattle.convoy_scenario.specs.Memory.{IsUnlessMemory};
-ghost use Rattle.convoy_toml.specs.Reading.{deadlines_of_text, scenario_of_written, unit_written};
-ghost use Rattle.convoy_toml.specs.Ways.{has_ranges};
+ghost use Rattle.convoy_toml.specs.Reading.{deadlines_of_text, unit_written};
 ghost use Rattle.convoy_sweep.specs.declared.fault.SweepFault.TheVariants.{Text};
 ghost use Rattle.convoy_sweep.specs.Points.{all_made, held, listed, made_at, made_in, prepared_of, scenario_at, seen, told_at, with_second, written_at, written_of_text};
 
@@ -12,10 +11,10 @@ use super::changing::with_key;
 use super::fault::SweepFault;
 use super::kinds::{Given, Point, Setting, Sweep};
 use super::points::{points_of, ranges_in};
-use convoy_scenario::{DraftScenario, Duration, Scenario, ScenarioFault, Time};
+use convoy_scenario::{Duration, Scenario, ScenarioFault};
 use convoy_toml::{
-    Asked, Input, WrittenScenario, draft_of_written, read_table, read_toml_asked, tick_of,
-    ways_without_link, written_of_table,
+    Asked, Input, WrittenScenario, read_table, read_toml_asked, scenario_of_written, tick_of,
+    written_of_table,
 };
 use std::alloc::{AllocError, Global};
 
@@ -158,7 +157,7 @@ fn scenario_at(
     ensures { IsUnlessMemory Memory (scenario_at sweep.now written.now point) result }
 {
     let changed = written_at(alloc, sweep, point, written)?;
-    scenario_of_written(alloc, &changed)
+    Ok(scenario_of_written(alloc, &changed)?)
 }
 
 /// What is written at a point. Fails where memory runs out, and else never.
@@ -186,30 +185,5 @@ fn with_second(
     match (setting, given) {
         (Some(setting), Some(given)) => with_key(alloc, &setting.key, given, &written),
         (None, _) | (Some(_), None) => Ok(written),
-    }
-}
-
-/// The scenario of what is written, in which a packet that travels has a range that is written, where time is real.
-fn scenario_of_written(alloc: Global, written: &WrittenScenario) -> Result<Scenario, ScenarioFault>
-    ensures { IsUnlessMemory Memory (scenario_of_written written.now) result }
-{
-    let draft = draft_of_written(alloc, written)?;
-    let has_ranges = has_ranges(alloc, written.least.is_some(), &draft)?;
-    let scenario = Scenario::from_draft(alloc, draft)?;
-    if has_ranges {
-        Ok(scenario)
-    } else {
-        Err(ScenarioFault::NoRange)
-    }
-}
-
-/// Whether each packet that travels has a range that is written; in whole ticks it is 1 to D where nothing is written.
-fn has_ranges(alloc: Global, has_least: bool, draft: &DraftScenario) -> Result<bool, AllocError>
-    ensures { IfOk result (λ has. has ≡ has_ranges has_least draft.now) }
-{
-    match draft.time {
-        Time::Ticks => Ok(true),
-        Time::Real if has_least => Ok(true),
-        Time::Real => Ok(ways_without_link(alloc, draft)?.is_empty()),
     }
 }

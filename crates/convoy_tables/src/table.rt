@@ -108,7 +108,8 @@ impl Model for Table {
 }
 
 impl Table {
-    ghost use Rattle.std.specs.Prelude.{◌≡◌, ◌∷◌, [], ◌++◌, OnOk};
+    ghost use Rattle.std.specs.Prelude.{◌≡◌, ◌∷◌, [], ◌++◌, map, IfOk, OnOk};
+    ghost use Rattle.convoy_tables.specs.Tables.{word};
 
     /// A table with columns of these names, and without rows yet.
     pub fn new(alloc: Global, columns: Row) -> Table
@@ -127,6 +128,20 @@ impl Table {
         Ok(self.rows.push(row)?)
     }
 
+    /// The table with one more column, which has the same word in each row. Fails where memory runs out, and else never.
+    pub fn with_column(self, alloc: Global, name: &str, text: &str) -> Result<Table, AllocError>
+        ensures { IfOk result (λ table. table ≡ record {
+          columns = self.columns ++ word name.now ∷ [];
+          rows = map (λ row. row ++ word text.now ∷ []) self.rows;
+        }) }
+    {
+        let Table { columns, rows } = self;
+        Ok(Table {
+            columns: with_word(columns, name)?,
+            rows: with_words(alloc, rows, text)?,
+        })
+    }
+
     /// The names of the columns.
     pub fn columns(&self) -> &[Cell]
         ensures { result.now ≡ self.now.columns }
@@ -140,4 +155,27 @@ impl Table {
     {
         self.rows.as_slice()
     }
+}
+
+ghost use Rattle.std.specs.Prelude.{◌≡◌, ◌∷◌, [], ◌++◌, map, IfOk};
+ghost use Rattle.convoy_tables.specs.Tables.{word};
+
+/// The row with one more cell, which has a word.
+fn with_word(row: Row, text: &str) -> Result<Row, AllocError>
+    ensures { IfOk result (λ longer. longer ≡ row ++ word text.now ∷ []) }
+{
+    let mut longer = row;
+    longer.push_word(text)?;
+    Ok(longer)
+}
+
+/// The same of each row.
+fn with_words(alloc: Global, rows: Vec<Row>, text: &str) -> Result<Vec<Row>, AllocError>
+    ensures { IfOk result (λ longer. longer.items ≡ map (λ row. row ++ word text.now ∷ []) rows.items) }
+{
+    let mut longer = Vec::new(alloc);
+    for row in rows {
+        longer.push(with_word(row, text)?)?;
+    }
+    Ok(longer)
 }

@@ -1,6 +1,7 @@
 -- The faults that the rule of a task allows for a text: none is a device's.
 use Rattle.std.proofs.Common.{◌≡◌, inl, inr, ℕ, Bool, true, false, cond, nat_le, List, Option, Some, None, Result, Ok, Err, length, string_bytes}
 use Rattle.std.specs.Option.{option_map}
+use Rattle.std.specs.Result.{result_map_both}
 use Rattle.convoy_streams.specs.declared.reading.ReadFault.TheVariants.{TooLong}
 use Rattle.convoy_draft.specs.declared.duration.TimeUnit.{TimeUnit}
 use Rattle.convoy_scenario.specs.Scenario.{Scenario}
@@ -22,6 +23,8 @@ use Rattle.convoy_commands.specs.declared.telling.Telling.{Telling}
 use Rattle.convoy_commands.specs.Asks.{AskSays}
 use Rattle.convoy_commands.specs.First.{first_text}
 use Rattle.convoy_commands.specs.Inputs.{reply_of_reading, reply_to_form}
+use Rattle.convoy_commands.specs.Faults.{told_of_ranges}
+use Rattle.convoy_commands.specs.Ranging.{RangesSay, links_told}
 use Rattle.convoy_commands.specs.Replies.{fine}
 use Rattle.convoy_commands.specs.Searches.{IsFaultyBy}
 use Rattle.convoy_commands.specs.Tells.{TellSays, certificate_told, job_told}
@@ -37,13 +40,17 @@ use Rattle.convoy_survey.specs.CeilingTables.{CeilingsSay}
 use Rattle.convoy_what_if.specs.WhatIf.{WhatIfSays}
 use Rattle.convoy_report.specs.Reports.{ReportSays}
 use Rattle.convoy_budget.specs.Answers.{BudgetSays}
+use Rattle.convoy_ranges.specs.Answers.{ranges_text}
+use Rattle.convoy_ranges.specs.declared.asked.RangeRules.{RangeRules}
+use Rattle.convoy_ranges.specs.declared.fault.RangesFault.{RangesFault}
+use Rattle.convoy_ranges.specs.declared.fault.RangesFault.TheVariants as tables
 use Rattle.convoy_sweep.specs.Told.{CurveTold, SweepTold, told_of_sweep}
 use Rattle.convoy_sweep.specs.declared.fault.SweepFault.{SweepFault}
 use Rattle.convoy_sweep.specs.declared.fault.SweepFault.TheVariants as sweeps
 use Rattle.convoy_sweep.specs.declared.kinds.Setting.{Setting}
 use Rattle.convoy_sweep.specs.declared.kinds.Sweep.{Sweep as AskedSweep}
 use Rattle.convoy_tasks.specs.declared.task.Task.{Task}
-use Rattle.convoy_tasks.specs.declared.task.Task.TheVariants.{First, Tell, Check, Explain, Draw, Ceiling, Ceilings, Analyse, Latency, Survey, WhatIf, Report, Budget, Order, Sweep, Curve, BatchTable}
+use Rattle.convoy_tasks.specs.declared.task.Task.TheVariants.{First, Tell, Check, Explain, Draw, Ceiling, Ceilings, Analyse, Latency, Survey, WhatIf, Report, Budget, Order, Listing, Ranges, Sweep, Curve, BatchTable}
 use Rattle.convoy_tasks.specs.Abouts.{check_says}
 use Rattle.convoy_tasks.specs.Tasks.{task_says}
 
@@ -127,6 +134,20 @@ sweep_no_device format sweep envelope asked settings text fault says = rw says.t
 curve_no_device : (setting : Setting) (envelope : Bool) (asked : Asked) (settings : Settings) (text : List ℕ) (fault : Fault) → CurveTold setting envelope asked settings text (Err fault) → IsNoDevice fault
 curve_no_device setting envelope asked settings text fault says = rw says.told (swept_no_device says.cause)
 
+-- why a table gives no ranges is no device's fault
+no_device_in_table : (cause : RangesFault) → IsNoDevice (told_of_ranges cause)
+no_device_in_table tables.TooLong = tt
+no_device_in_table tables.Empty = tt
+no_device_in_table (tables.Line line cause) = tt
+no_device_in_table tables.Memory = tt
+
+table_no_device : (answer : Result (List ℕ) RangesFault) (fault : Fault) → result_map_both (λ links. links) told_of_ranges answer ≡ Err fault → IsNoDevice fault
+table_no_device (Ok links) fault is = cc
+table_no_device (Err cause) fault is = let same : fault ≡ told_of_ranges cause = cc in rw same (no_device_in_table cause)
+
+ranges_no_device : (rules : RangeRules) (text : List ℕ) (fault : Fault) → RangesSay rules text (Err fault) → IsNoDevice fault
+ranges_no_device rules text fault says = table_no_device (ranges_text rules text) fault (fault_of_fine (links_told rules text) fault says)
+
 pub says_no_device : (task : Task) (wanted : Option Scenario) (text : List ℕ) (fault : Fault) → task_says task wanted text (Err fault) → IsNoDevice fault
 says_no_device (First asked) wanted text fault says = first_no_device asked text fault (fault_of_fine (first_text asked text) fault says)
 says_no_device (Tell telling) wanted text fault says = tell_no_device telling text fault says
@@ -145,6 +166,8 @@ says_no_device (WhatIf format shows_all asked options) wanted text fault says = 
 says_no_device (Report asked options) wanted text fault says = report_no_device asked options text fault says
 says_no_device (Budget format of_all of_ceiling asked options) wanted text fault says = budget_no_device format of_all of_ceiling asked options text fault says
 says_no_device (Order format wanting with_reasons asked options) wanted text fault says = search_no_device asked text fault says
+says_no_device (Ranges rules) wanted text fault says = ranges_no_device rules text fault says
+says_no_device (Listing wanting asked options) wanted text fault says = search_no_device asked text fault says
 says_no_device (Sweep format sweep envelope asked options) wanted text fault says = sweep_no_device format sweep envelope asked options text fault says
 says_no_device (Curve setting envelope asked options) wanted text fault says = curve_no_device setting envelope asked options text fault says
 says_no_device (BatchTable format asked options tells_status) wanted text fault says = rw says.0 tt

@@ -8,6 +8,7 @@ use Rattle.convoy_commands.specs.declared.limits.TheConstants.{LONGEST_CERTIFICA
 use Rattle.convoy_commands.specs.Asks.{AskSays}
 use Rattle.convoy_commands.specs.Ceilings.{CeilingSays}
 use Rattle.convoy_commands.specs.First.{FirstSays}
+use Rattle.convoy_commands.specs.Ranging.{RangesSay}
 use Rattle.convoy_commands.specs.Replies.{Rule}
 use Rattle.convoy_commands.specs.Searches.{AnalyseSays}
 use Rattle.convoy_commands.specs.Tells.{TellSays}
@@ -18,12 +19,13 @@ use Rattle.convoy_survey.specs.Surveys.{SurveySays}
 use Rattle.convoy_what_if.specs.WhatIf.{WhatIfSays}
 use Rattle.convoy_report.specs.Reports.{ReportSays}
 use Rattle.convoy_budget.specs.Answers.{BudgetSays}
-use Rattle.convoy_best_order.specs.Answers.{OrderSays}
+use Rattle.convoy_best_order.specs.Answers.{ListingSays, OrderSays}
+use Rattle.convoy_ranges.specs.declared.fault.TheConstants.{MOST_BYTES}
 use Rattle.convoy_sweep.specs.Told.{CurveTold, SweepTold}
 use Rattle.convoy_tasks.specs.declared.batch_table.TheConstants.{LONGEST_BATCH}
 use Rattle.convoy_tasks.specs.BatchTables.{BatchTableSays}
 use Rattle.convoy_tasks.specs.declared.task.Task.{Task}
-use Rattle.convoy_tasks.specs.declared.task.Task.TheVariants.{First, Tell, Check, Explain, Draw, Ceiling, Ceilings, Analyse, Latency, Survey, WhatIf, Report, Budget, Order, Sweep, Curve, BatchTable}
+use Rattle.convoy_tasks.specs.declared.task.Task.TheVariants.{First, Tell, Check, Explain, Draw, Ceiling, Ceilings, Analyse, Latency, Survey, WhatIf, Report, Budget, Order, Listing, Ranges, Sweep, Curve, BatchTable}
 use Rattle.convoy_tasks.specs.Abouts.{check_says}
 
 -- THE RULE OF A TASK: what may be answered for a text. The scenario that is wanted, if one is, is that of which a certificate has to be; no other task looks at it.
@@ -42,6 +44,8 @@ task_says (WhatIf format shows_all asked options) wanted = WhatIfSays format sho
 task_says (Report asked options) wanted = ReportSays asked options
 task_says (Budget format of_all of_ceiling asked options) wanted = BudgetSays format of_all of_ceiling asked options
 task_says (Order format wanting with_reasons asked options) wanted = OrderSays format wanting with_reasons asked options
+task_says (Ranges rules) wanted = RangesSay rules
+task_says (Listing wanting asked options) wanted = ListingSays wanting asked options
 task_says (Sweep format sweep envelope asked options) wanted = SweepTold format sweep envelope asked options
 task_says (Curve setting envelope asked options) wanted = CurveTold setting envelope asked options
 task_says (BatchTable format asked options tells_status) wanted = BatchTableSays format asked options
@@ -62,12 +66,15 @@ longest_for (WhatIf format shows_all asked options) = LONGEST_JOB
 longest_for (Report asked options) = LONGEST_JOB
 longest_for (Budget format of_all of_ceiling asked options) = LONGEST_JOB
 longest_for (Order format wanting with_reasons asked options) = LONGEST_JOB
+longest_for (Ranges rules) = MOST_BYTES
+longest_for (Listing wanting asked options) = LONGEST_JOB
 longest_for (Sweep format sweep envelope asked options) = LONGEST_JOB
 longest_for (Curve setting envelope asked options) = LONGEST_JOB
 longest_for (BatchTable format asked options tells_status) = LONGEST_BATCH
 
--- the task is done without a search for the greatest latency
+-- the task is done without a search for the greatest latency, and without rows that are made several at a time
 abbrev pub NeedsNoSearch : Task → Type 0
+NeedsNoSearch (Ceilings format group simulations asked unit) = ⊥
 NeedsNoSearch (Analyse asked options) = ⊥
 NeedsNoSearch (Latency with_ceiling asked options) = ⊥
 NeedsNoSearch (Survey format with_ceilings asked options) = ⊥
@@ -75,6 +82,7 @@ NeedsNoSearch (WhatIf format shows_all asked options) = ⊥
 NeedsNoSearch (Report asked options) = ⊥
 NeedsNoSearch (Budget format of_all of_ceiling asked options) = ⊥
 NeedsNoSearch (Order format wanting with_reasons asked options) = ⊥
+NeedsNoSearch (Listing wanting asked options) = ⊥
 NeedsNoSearch (Sweep format sweep envelope asked options) = ⊥
 NeedsNoSearch (Curve setting envelope asked options) = ⊥
 NeedsNoSearch (BatchTable format asked options tells_status) = ⊥

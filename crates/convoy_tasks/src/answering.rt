@@ -10,12 +10,13 @@ ghost use Rattle.convoy_tasks.specs.Tasks.{NeedsNoSearch, longest_for, task_says
 use super::batch_table::{LONGEST_BATCH, batch_table_answer};
 use super::checking::check_answer;
 use super::task::Task;
-use convoy_best_order::order_answer;
+use convoy_best_order::{listing_answer, order_answer};
 use convoy_budget::budget_answer;
 use convoy_commands::{
     Answer, Asking, Fault, LONGEST_CERTIFICATE, LONGEST_JOB, Watch, analyse_answer, ask,
-    ceiling_answer, explain_with_ceiling, first_answer, latency_answer, tell,
+    ceiling_answer, explain_with_ceiling, first_answer, latency_answer, ranges_answer, tell,
 };
+use convoy_ranges::MOST_BYTES;
 use convoy_report::report_answer;
 use convoy_scenario::{Scenario, TimeUnit};
 use convoy_survey::{ceilings_answer, survey_answer};
@@ -116,8 +117,13 @@ pub fn answer<R: Threads + Wait + Sync, W: Watch + Sync>(
             asked,
             options,
             text,
-            &watches[0],
+            watches,
         ),
+        Task::Listing {
+            wanted,
+            asked,
+            options,
+        } => listing_answer(rt, alloc, *wanted, asked, options, text, watches),
         Task::Sweep {
             format,
             sweep,
@@ -139,17 +145,34 @@ pub fn answer<R: Threads + Wait + Sync, W: Watch + Sync>(
             options,
             ..
         } => batch_table_answer(rt, alloc, asked, options, *format, text, watches),
+        Task::Ceilings {
+            format,
+            group,
+            simulations,
+            asked,
+            unit,
+        } => answer_ceilings(
+            rt,
+            alloc,
+            *format,
+            asked,
+            *unit,
+            group,
+            *simulations,
+            text,
+            watches,
+        ),
         Task::First { .. }
         | Task::Tell(_)
         | Task::Check { .. }
         | Task::Explain { .. }
         | Task::Draw { .. }
-        | Task::Ceiling { .. }
-        | Task::Ceilings { .. } => answer_at_once(alloc, task, wanted, text),
+        | Task::Ranges { .. }
+        | Task::Ceiling { .. } => answer_at_once(alloc, task, wanted, text),
     }
 }
 
-/// The same of a task that needs no search, and so no threads.
+/// The same of a task that needs no search and makes no rows, and so no threads.
 pub(crate) fn answer_at_once(
     alloc: Global,
     task: &Task,
@@ -172,25 +195,21 @@ pub(crate) fn answer_at_once(
             limit,
         } => answer_explain(alloc, *with_ceiling, *unit, *limit, text),
         Task::Draw { unit, limit } => ask(alloc, Asking::Draw(*unit), *limit, text),
+        Task::Ranges { rules } => ranges_answer(alloc, rules, text),
         Task::Ceiling {
             simulations,
             asked,
             unit,
         } => ceiling_answer(alloc, *simulations, asked, *unit, text),
-        Task::Ceilings {
-            format,
-            group,
-            simulations,
-            asked,
-            unit,
-        } => answer_ceilings(alloc, *format, asked, *unit, group, *simulations, text),
-        Task::Analyse { .. }
+        Task::Ceilings { .. }
+        | Task::Analyse { .. }
         | Task::Latency { .. }
         | Task::Survey { .. }
         | Task::WhatIf { .. }
         | Task::Report { .. }
         | Task::Budget { .. }
         | Task::Order { .. }
+        | Task::Listing { .. }
         | Task::Sweep { .. }
         | Task::Curve { .. }
         | Task::BatchTable { .. } => unreachable!(),
@@ -216,7 +235,8 @@ fn answer_explain(
 }
 
 /// The ceilings at all groups, or at the one that is named.
-fn answer_ceilings(
+fn answer_ceilings<R: Threads + Sync, W: Sync>(
+    rt: &R,
     alloc: Global,
     format: Format,
     asked: &Asked,
@@ -224,16 +244,38 @@ fn answer_ceilings(
     group: &Option<String>,
     simulations: u64,
     text: &[u8],
+    watches: &[W],
 ) -> Result<Answer, Fault>
+    requires { 0 < length watches.now }
     ensures { SaysUnlessMemory (CeilingsSay format asked.now unit (option_map string_bytes group.now)) text.now
         (reply_of result) }
 {
     match group {
         Some(name) => {
             let name = Some(name.as_str());
-            ceilings_answer(alloc, format, asked, unit, name, simulations, text)
+            ceilings_answer(
+                rt,
+                alloc,
+                format,
+                asked,
+                unit,
+                name,
+                simulations,
+                text,
+                watches,
+            )
         }
-        None => ceilings_answer(alloc, format, asked, unit, None, simulations, text),
+        None => ceilings_answer(
+            rt,
+            alloc,
+            format,
+            asked,
+            unit,
+            None,
+            simulations,
+            text,
+            watches,
+        ),
     }
 }
 
@@ -246,6 +288,7 @@ pub fn longest_of(task: &Task) -> usize
             LONGEST_CERTIFICATE
         }
         Task::BatchTable { .. } => LONGEST_BATCH,
+        Task::Ranges { .. } => MOST_BYTES,
         Task::First { .. }
         | Task::Ceiling { .. }
         | Task::Ceilings { .. }
@@ -256,6 +299,7 @@ pub fn longest_of(task: &Task) -> usize
         | Task::Report { .. }
         | Task::Budget { .. }
         | Task::Order { .. }
+        | Task::Listing { .. }
         | Task::Sweep { .. }
         | Task::Curve { .. } => LONGEST_JOB,
     }

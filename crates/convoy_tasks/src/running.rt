@@ -40,7 +40,7 @@ pub fn run_task<R: Threads + Wait + Sync, S: Source, K: Sink, W: Watch + Sync>(
     write_answer(sink, answer(rt, alloc, task, wanted, &text, watches))
 }
 
-/// The same of a task that needs no search, and so no threads; no scenario is wanted.
+/// The same of a task that needs no search and makes no rows, and so no threads; no scenario is wanted.
 pub(crate) fn run_at_once<S: Source, K: Sink>(
     alloc: Global,
     task: &Task,

@@ -1,5 +1,6 @@
 use convoy_best_order::Wanted;
 use convoy_commands::{Options, Telling, TimeUnit};
+use convoy_ranges::RangesAsked;
 use convoy_sweep::{Setting, Sweep};
 use convoy_tables::Format;
 use convoy_toml::Asked;
@@ -98,6 +99,16 @@ pub enum Task {
         with_reasons: bool,
         asked: Asked,
         options: Options,
+    },
+    /// The scenario with its groups in the best order for the targets that are wanted, as a text.
+    Listing {
+        wanted: Wanted,
+        asked: Asked,
+        options: Options,
+    },
+    /// The links that a table of round trips gives by these rules.
+    Ranges {
+        rules: RangesAsked,
     },
     /// The greatest latency with each value of one key of the text, or of two, as a table in that format; and whether a
     /// row is to speak of all times of issue from one value to the next.

@@ -109,7 +109,7 @@ fn deadlines_of(
 
 /// The deadlines of a scenario's messages, in ticks, by their numbers, with one that is asked beside the text for those
 /// that have none; or the first that is none (docs/FORMATS.md, "Deadlines").
-pub(crate) fn deadlines_of_written(
+pub fn deadlines_of_written(
     alloc: Global,
     at_most: Option<WrittenTime>,
     scenario: &WrittenScenario,

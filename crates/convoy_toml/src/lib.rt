@@ -4,14 +4,15 @@
 
 pub use asked::Asked;
 pub use bundle::Bundle;
-pub use deadlines::GREATEST_DEADLINE;
+pub use copying::{copy_ends, copy_name, copy_names};
+pub use deadlines::{GREATEST_DEADLINE, deadlines_of_written};
 pub use divisor::common_divisor;
 pub use input::Input;
 pub use links::{MOST_WRITTEN_LINKS, links_of_bundle};
 pub use placed::{Placed, ScenarioTable};
 pub use plain::PlainNumber;
-pub use read::{read_table, read_toml, read_toml_asked};
-pub use shape::{time_of_table, written_of_table};
+pub use read::{read_table, read_toml, read_toml_asked, scenario_of_written};
+pub use shape::{scenario_of_table, time_of_table, unit_of_table, written_of_table};
 pub use target::TargetKey;
 pub use times::{bundles_of, draft_of_written, tick_of};
 pub use ways::{Way, ways_without_link};
@@ -22,6 +23,7 @@ pub use written::{
 
 mod asked;
 mod bundle;
+mod copying;
 mod deadlines;
 mod divisor;
 mod input;

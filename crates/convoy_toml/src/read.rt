@@ -105,8 +105,10 @@ fn input_of_written(
     })
 }
 
-/// The scenario of what is written, in which a packet that travels has a range that is written, where time is real.
-fn scenario_of_written(alloc: Global, written: &WrittenScenario) -> Result<Scenario, Placed>
+/// The scenario of what is written, in which a packet that travels has a range that is written, where time is real: of what
+/// is faulty the first fault, in the order of `ScenarioFault`, after those of its shape; and `ScenarioFault::Memory` where
+/// memory runs out.
+pub fn scenario_of_written(alloc: Global, written: &WrittenScenario) -> Result<Scenario, Placed>
     ensures { IsUnlessMemory Memory (scenario_of_written written.now) result }
 {
     let draft = draft_of_written(alloc, written)?;

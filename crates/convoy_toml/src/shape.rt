@@ -535,8 +535,9 @@ pub fn written_of_table(
     })
 }
 
-/// The scenario as it is written in a table, whatever else stands there.
-fn scenario_of_table(
+/// The scenario as it is written in a table, whatever else stands there: of a faulty one the first fault of its shape, with
+/// the table that it is of; and `ScenarioFault::Memory` where memory runs out.
+pub fn scenario_of_table(
     alloc: Global,
     table: &Table,
     target: &TargetKey,

@@ -1,4 +1,4 @@
-ghost use Rattle.std.specs.Prelude.{◌≡◌, ◌≤◌, ◌++◌, map, flat_map, option_map, pos, IfOk, OnOk};
+ghost use Rattle.std.specs.Prelude.{◌≡◌, ◌≤◌, ◌++◌, map, flat_map, pos, IfOk, OnOk};
 ghost use Rattle.convoy_draft.specs.declared.duration.TheConstants.{LONGEST_DURATION};
 ghost use Rattle.std.specs.List.{list_all};
 ghost use Rattle.convoy_scenario.specs.Memory.{IsUnlessMemory};
@@ -7,11 +7,12 @@ ghost use Rattle.convoy_toml.specs.Shape.{listed};
 ghost use Rattle.convoy_toml.specs.Times.{if_written, whole_if_written, greatest_most, delay_or_greatest, is_least, need_least, times_of_message, times_of_links, is_count, is_lasting, length_of, divisor_of_all, times_of, tick_between, tick_of, ticks_in, ticks_of, whole, last_tick, draft_message_of, draft_messages_of, bundle_of, bundles_of, draft_of_written};
 
 use super::bundle::Bundle;
+use super::copying::{copy_ends, copy_name, copy_names};
 use super::divisor::common_divisor;
 use super::links::links_of_bundles;
 use super::placed::{Placed, ScenarioTable, in_table};
 use super::ways::with_least;
-use super::written::{LinkEnds, WrittenLink, WrittenMulticast, WrittenScenario, WrittenTime};
+use super::written::{WrittenLink, WrittenMulticast, WrittenScenario, WrittenTime};
 use convoy_scenario::{
     DraftLink, DraftMulticast, DraftScenario, Duration, Key, Limit, Name, ScenarioFault, Time,
     is_within,
@@ -233,7 +234,7 @@ fn draft_multicast_of(
     let until = last_tick(tick, at, multicast.until)?;
     Ok(DraftMulticast {
         name: multicast.name.copy()?,
-        sender: copy_sender(&multicast.sender)?,
+        sender: copy_name(&multicast.sender)?,
         to: copy_names(alloc, &multicast.to)?,
         at,
         until,
@@ -372,47 +373,4 @@ pub fn draft_of_written(alloc: Global, scenario: &WrittenScenario) -> Result<Dra
     need_least(scenario.time, delay, least)?;
     let draft = draft_in_ticks(alloc, scenario, tick, delay, links, multicasts)?;
     Ok(with_least(alloc, least, draft)?)
-}
-
-/// The same name, in memory of its own, if there is one.
-fn copy_sender(sender: &Option<Name>) -> Result<Option<Name>, AllocError>
-    ensures { IfOk result (λ copy. copy ≡ sender.now) }
-{
-    match sender {
-        Some(name) => Ok(Some(name.copy()?)),
-        None => Ok(None),
-    }
-}
-
-/// The same ends, in memory of their own.
-fn copy_ends(alloc: Global, ends: &LinkEnds) -> Result<LinkEnds, AllocError>
-    ensures { IfOk result (λ copy. copy ≡ ends.now) }
-{
-    Ok(LinkEnds {
-        senders: copy_senders(alloc, &ends.senders)?,
-        to: copy_names(alloc, &ends.to)?,
-        both: ends.both,
-    })
-}
-
-/// The same names, in memory of their own, if there are any.
-fn copy_senders(alloc: Global, senders: &Option<Vec<Name>>) -> Result<Option<Vec<Name>>, AllocError>
-    ensures { IfOk result (λ copies. option_map (λ names. names.items) copies
-        ≡ option_map (λ names. names.items) senders.now) }
-{
-    match senders {
-        Some(names) => Ok(Some(copy_names(alloc, names)?)),
-        None => Ok(None),
-    }
-}
-
-/// The same names, in memory of their own.
-fn copy_names(alloc: Global, names: &[Name]) -> Result<Vec<Name>, AllocError>
-    ensures { IfOk result (λ copies. copies.items ≡ names.now) }
-{
-    let mut copies = Vec::new(alloc);
-    for name in names {
-        copies.push(name.copy()?)?;
-    }
-    Ok(copies)
 }

@@ -1,24 +1,53 @@
-use Rattle.std.proofs.Common.{◌≡◌, ℕ, List, Option, inl, refl, ap, subst, ◌∙◌}
+use Rattle.std.proofs.Common.{All, ◌≡◌, ◌<◌, ℕ, List, Option, not, filter, length, inl, refl, ap, subst, sym, ◌∙◌}
+use Rattle.std.proofs.lemmas.List.Elements.{All-filter}
 use Rattle.convoy_best_order.specs.declared.target.Target.{Target}
 use Rattle.convoy_best_order.specs.Answers.{targets_of_text}
-use Rattle.convoy_best_order.specs.Best.{IsBest}
-use Rattle.convoy_best_order.specs.Targets.{targets_of}
+use Rattle.convoy_best_order.specs.Best.{AreRows, IsBest}
+use Rattle.convoy_best_order.specs.Orders.{IsOrder}
+use Rattle.convoy_best_order.specs.Targets.{MayBeTarget, are_judged, counted, counts, targets_of, uncounted}
+use Rattle.convoy_best_order.proofs.Counting.{some_count}
 use Rattle.convoy_best_order.proofs.answering.order_answer.Goals as goal
+
+pub best_order-requires-clause-some : goal.best_order-requires-clause-some
+best_order-requires-clause-some g c κs within =
+    subst (λ (ts : List Target). 0 < length ts) (sym (c.deref-4.ensures.value ∙ c.in_ok-counting.ensures))
+    (some_count c.deref-2.result.now (subst (λ (ts : List Target). 0 < length ts) (sym c.deref-2.ensures.value) c.in_ok-targets.ensures.some))
+
+pub best_order-requires-clause-lawful : goal.best_order-requires-clause-lawful
+best_order-requires-clause-lawful g c κs within =
+    let lawful = MayBeTarget c.in_ok-input.input.scenario in
+    subst (λ (ts : List Target). All lawful ts) (sym (c.deref-4.ensures.value ∙ c.in_ok-counting.ensures))
+    (All-filter (counts (are_judged c.deref-2.result.now)) lawful c.deref-2.result.now
+    (subst (λ (ts : List Target). All lawful ts) (sym c.deref-2.ensures.value) c.in_ok-targets.ensures.lawful))
+
+pub rows_of-requires-clause-lawful : goal.rows_of-requires-clause-lawful
+rows_of-requires-clause-lawful g c κs within =
+    let lawful = MayBeTarget c.in_ok-input.input.scenario in
+    subst (λ (ts : List Target). All lawful ts) (sym (c.deref-5.ensures.value ∙ c.in_ok-rest.ensures))
+    (All-filter (λ (target : Target). not (counts (are_judged c.deref-3.result.now) target)) lawful c.deref-3.result.now
+    (subst (λ (ts : List Target). All lawful ts) (sym c.deref-3.ensures.value) c.in_ok-targets.ensures.lawful))
+
+pub rows_of-requires-clause-order : goal.rows_of-requires-clause-order
+rows_of-requires-clause-order g c κs within = subst (IsOrder c.in_ok-input.input.scenario) (sym c.deref-6.ensures.value) c.in_ok-best.ensures.order
 
 pub returns : goal.returns
 returns g c =
-    let targets : c.in_ok-targets.targets.items ≡ targets_of_text c.args.wanted c.args.asked.now c.args.text.now c.in_ok-input.input.scenario =
+    let scenario = c.in_ok-input.input.scenario in
+    let targets : c.in_ok-targets.targets.items ≡ targets_of_text c.args.wanted c.args.asked.now c.args.text.now scenario =
     c.in_ok-targets.ensures.value
-    ∙ ap (λ (deadlines : List (Option ℕ)). targets_of c.args.wanted deadlines c.in_ok-input.input.scenario)
-    (c.deref.ensures.value ∙ c.in_ok-input.ensures.deadlines) in
+    ∙ ap (λ (deadlines : List (Option ℕ)). targets_of c.args.wanted deadlines scenario) (c.deref.ensures.value ∙ c.in_ok-input.ensures.deadlines) in
     inl
     (record {
-      scenario = c.in_ok-input.input.scenario;
+      scenario = scenario;
       best = c.in_ok-best.best;
+      others = c.in_ok-others.others.items;
       read = c.in_ok-input.ensures.read;
       lawful = c.message_count-count.ensures.lawful;
-      told = subst (λ (ts : List Target). IsBest c.args.options.now c.in_ok-input.input.scenario ts c.in_ok-best.best)
-          (c.deref-2.ensures.value ∙ targets) c.in_ok-best.ensures;
-      written = rw (c.about.ensures.text, c.in_ok-text.ensures, c.deref-3.ensures.value, targets, c.of-measure.ensures, c.unit.ensures, c.in_ok-input.ensures.unit) refl;
-      ends = rw (c.about.ensures.done, c.end_of-done.ensures, c.are_judged.ensures, c.deref-4.ensures.value, targets) refl;
+      told = subst (λ (ts : List Target). IsBest c.args.options.now scenario ts c.in_ok-best.best)
+          (c.deref-4.ensures.value ∙ c.in_ok-counting.ensures ∙ ap counted (c.deref-2.ensures.value ∙ targets)) c.in_ok-best.ensures;
+      rest = subst (λ (ts : List Target). AreRows c.args.options.now scenario ts c.in_ok-best.best.order.items c.in_ok-others.others.items)
+          (c.deref-5.ensures.value ∙ c.in_ok-rest.ensures ∙ ap uncounted (c.deref-3.ensures.value ∙ targets))
+          (subst (λ (gs : List ℕ). AreRows c.args.options.now scenario c.deref-5.result.now gs c.in_ok-others.others.items) c.deref-6.ensures.value c.in_ok-others.ensures);
+      written = rw (c.about.ensures.text, c.in_ok-text.ensures, c.deref-7.ensures.value, c.deref-8.ensures.value, targets, c.of-measure.ensures, c.unit.ensures, c.in_ok-input.ensures.unit) refl;
+      ends = rw (c.about.ensures.done, c.end_of-done.ensures, c.are_judged.ensures, c.deref-9.ensures.value, targets) refl;
     })

@@ -8,16 +8,16 @@ use Rattle.convoy_best_order.proofs.reasons.reason_for.Goals as goal
 pub dearest_at-requires-clause-order : goal.dearest_at-requires-clause-order
 dearest_at-requires-clause-order g c κs within =
     rw (c.deref.ensures.value, c.in_ok-order.ensures)
-    (next_listed c.args.scenario.now c.args.ahead.now c.args.left.now c.args.place c.requires.known c.requires.order)
+    (next_listed c.args.scenario.now c.args.ahead.now c.args.left.now c.args.place c.requires.known c.requires.next.order)
 
-pub returns-clause-group : goal.returns-clause-group
-returns-clause-group g c = rw c.in_ok-dearest.ensures.at (slice_get-get_or c.args.left.now c.args.place _ c.requires.known)
-
-pub returns-clause-reason : goal.returns-clause-reason
-returns-clause-reason g c =
-    is_reason c.args.options.now c.args.scenario.now c.args.targets.now c.args.ahead.now c.args.left.now c.args.place _ c.requires.known c.requires.order
-    c.in_ok-order.ensures
-    (c.in_ok-dearest.ensures.at ∙ get_or_default c.args.left.now c.args.place _ 0 c.requires.known)
-    c.in_ok-dearest.ensures.of_target
-    (subst (λ (order : List ℕ). IsSpreadIn c.args.options.now c.args.scenario.now order c.in_ok-dearest.dearest.target c.in_ok-dearest.dearest.spread)
-    c.deref.ensures.value c.in_ok-dearest.ensures.found)
+pub returns : goal.returns
+returns g c = record {
+  at = rw c.in_ok-dearest.ensures.at (slice_get-get_or c.args.left.now c.args.place _ c.requires.known);
+  told =
+      is_reason c.args.options.now c.args.scenario.now c.args.targets.now c.args.ahead.now c.args.left.now c.args.place _ c.requires.known c.requires.next.order
+      c.in_ok-order.ensures
+      (c.in_ok-dearest.ensures.at ∙ get_or_default c.args.left.now c.args.place _ 0 c.requires.known)
+      c.in_ok-dearest.ensures.of_target
+      (subst (λ (order : List ℕ). IsSpreadIn c.args.options.now c.args.scenario.now order c.in_ok-dearest.dearest.target c.in_ok-dearest.dearest.spread)
+      c.deref.ensures.value c.in_ok-dearest.ensures.found);
+}

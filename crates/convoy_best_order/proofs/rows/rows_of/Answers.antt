@@ -1,8 +1,7 @@
-use Rattle.convoy_best_order.proofs.Steps.{rows_more}
+use Rattle.convoy_best_order.proofs.Told.{rows_told}
 use Rattle.convoy_best_order.proofs.rows.rows_of.Goals as goal
 
-pub loop-target-preserved : goal.loop-target-preserved
-loop-target-preserved g c =
-    rw c.in_ok-push.ensures.items
-    (rows_more c.args.options.now c.args.scenario.now c.args.targets.now c.args.order.now c.loop-target.target-index _ c.loop-target.rows.items c.in_ok-row.row
-    c.loop-target-test.true c.loop-target.invariant c.in_ok-row.ensures.target c.in_ok-row.ensures.row)
+pub returns : goal.returns
+returns g c =
+    rows_told c.args.options.now c.args.scenario.now c.args.order.now c.args.targets.now c.in_ok-rows.rows.items c.in_ok-all_values.field-0 c.in_ok-rows.ensures
+    c.in_ok-all_values.ensures

@@ -38,7 +38,7 @@ list_progress-requires c =
 pub overflow_sub-delivered : goal.overflow_sub-delivered
 overflow_sub-delivered c =
     target_issued _ _ _ _ _ (is_target (goal.at.overflow_sub-delivered c).After-of-times)
-    c.issue_tick.result c.delivery_tick-delivered.result c.issue_tick.ensures.value c.delivery_tick-delivered.ensures
+    c.issue.result c.delivery_tick-delivered.result c.issue.ensures c.delivery_tick-delivered.ensures
 
 pub new-requires-2 : goal.new-requires-2
 new-requires-2 c =
@@ -53,14 +53,14 @@ returns-clause-run c =
     let read = stamps_are _ _ _ _ _ is c.requires.assignment _ _ c.of-stamps.ensures c.fill.ensures in
     run_told _ _ _ _ _ is c.requires.assignment _ read c.in_ok-finals.finals.items c.in_ok-progress.progress.items c.message_count.result
     (record { number = c.message_count.ensures.value; finals_are = c.in_ok-finals.ensures; progress_is = c.in_ok-progress.ensures })
-    (c.delivery_tick-delivered.result - c.issue_tick.result) c.new-2.result c.new-2.ensures
-    (target_latency _ _ _ _ _ is c.issue_tick.result c.delivery_tick-delivered.result c.issue_tick.ensures.value c.delivery_tick-delivered.ensures)
+    (c.delivery_tick-delivered.result - c.issue.result) c.new-2.result c.new-2.ensures
+    (target_latency _ _ _ _ _ is c.issue.result c.delivery_tick-delivered.result c.issue.ensures c.delivery_tick-delivered.ensures)
 
 pub returns-clause-latency : goal.returns-clause-latency
 returns-clause-latency c =
     ap (λ (r : Run). r.latency) c.new-2.ensures
     ∙ target_latency _ _ _ _ _ (is_target (goal.at.returns-clause-latency c).After-of-times)
-    c.issue_tick.result c.delivery_tick-delivered.result c.issue_tick.ensures.value c.delivery_tick-delivered.ensures
+    c.issue.result c.delivery_tick-delivered.result c.issue.ensures c.delivery_tick-delivered.ensures
 
 pub returns-clause-four_delays : goal.returns-clause-four_delays
 returns-clause-four_delays c =

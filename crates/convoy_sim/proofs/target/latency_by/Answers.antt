@@ -1,6 +1,6 @@
 use Rattle.std.proofs.Common.{◌≡◌, ℕ, ◌<◌, length, refl, sym, ap, ap₂, subst, ◌∙◌}
 use Rattle.std.specs.List.{All}
-use Rattle.convoy_scenario.specs.Scenario.{Scenario, message_at}
+use Rattle.convoy_scenario.specs.Scenario.{Scenario}
 use Rattle.convoy_sim.specs.Scheduled.{Scheduled}
 use Rattle.convoy_sim.specs.declared.moment.Moment.{Moment}
 use Rattle.convoy_sim.specs.declared.moment.MomentKind.TheVariants.{Commit}
@@ -15,7 +15,7 @@ use Rattle.convoy_sim.proofs.StampsTold.{told_enough, enough_by_commit, all_with
 use Rattle.convoy_sim.proofs.TargetOf.{IsTarget, target_well, target_goes, target_issued, target_latency}
 use Rattle.convoy_sim.proofs.target.latency_by.Given as given
 use Rattle.convoy_sim.proofs.target.latency_by.Goals as goal
-use Rattle.convoy_sim.proofs.target.latency_by.Goals.{After-target_group-group, After-fill, After-issue_tick}
+use Rattle.convoy_sim.proofs.target.latency_by.Goals.{After-target_group-group, After-fill}
 
 is_target : (over : given.Over) (c : After-target_group-group over)
     → IsTarget (over.T.Ticks.scheduled c.args.times.now).scenario (over.T.Ticks.scheduled c.args.times.now).schedule (over.T.Ticks.scheduled c.args.times.now) c.target_message-message.result c.target_group-group.result
@@ -35,10 +35,6 @@ agenda_is over c =
     let times : Scheduled = over.T.Ticks.scheduled c.args.times.now in
     let last : ℕ → ℕ → Moment = λ t r. record { tick = t; rank = r; kind = Commit; message = c.target_message-message.result; group = c.target_group-group.result } in
     c.fill.ensures ∙ ap₂ (λ t r. before (last t r) (moments_of times.scenario times.schedule)) c.settling.ensures c.commit_rank.ensures
-
-issued : (over : given.Over) (c : After-issue_tick over) → c.issue_tick.result ≡ (message_at (over.T.Ticks.scheduled c.args.times.now).scenario c.target_message-message.result).at
-issued over c =
-    c.issue_tick.ensures.value ∙ ap (λ (p : Scenario). (message_at p c.target_message-message.result).at) c.scenario-scenario.ensures.value
 
 target_known : (over : given.Over) (c : After-target_group-group over)
     → c.target_message-message.result < length (over.T.Ticks.scheduled c.args.times.now).scenario.multicasts
@@ -83,9 +79,12 @@ delivery_tick-requires-clause-told over c =
 pub overflow_sub-result : goal.overflow_sub-result
 overflow_sub-result over c =
     target_issued _ _ _ _ _ (is_target over (goal.at.overflow_sub-result over c).After-target_group-group)
-    c.issue_tick.result c.delivery_tick.result (issued over (goal.at.overflow_sub-result over c).After-issue_tick) c.delivery_tick.ensures
+    c.issue.result c.delivery_tick.result c.issue.ensures c.delivery_tick.ensures
 
 pub returns : goal.returns
 returns over c =
     target_latency _ _ _ _ _ (is_target over (goal.at.returns over c).After-target_group-group)
-    c.issue_tick.result c.delivery_tick.result (issued over (goal.at.returns over c).After-issue_tick) c.delivery_tick.ensures
+    c.issue.result c.delivery_tick.result c.issue.ensures c.delivery_tick.ensures
+
+pub issue-requires : goal.issue-requires
+issue-requires over c = target_known over (goal.at.issue-requires over c).After-target_group-group

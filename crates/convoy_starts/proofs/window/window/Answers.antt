@@ -18,7 +18,7 @@ loop-above-preserved c =
     let step = ap (fold min first) (map-range_with_len_more f value count above here) ∙ fold-append min first (map f (range_with_len value count)) (f above ∷ []) in
     let whole = ap (λ (n : ℕ). fold min first (map f (range_with_len value n))) more in
     let so_far : c.loop-above.least ≡ fold min first (map f (range_with_len value (above - value))) = c.loop-above.invariant.so_far in
-    let now : c.min-least.result ≡ min c.loop-above.least (f above) = c.min-least.ensures ∙ ap (λ (n : ℕ). min c.loop-above.least n) c.room_above.ensures in
+    let now : c.least_room-least.result ≡ min c.loop-above.least (f above) = c.least_room-least.ensures in
     let low = c.loop-above.invariant.small in
     record {
       so_far =

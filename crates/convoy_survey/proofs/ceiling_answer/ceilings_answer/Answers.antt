@@ -2,7 +2,7 @@ use Rattle.std.proofs.Common.{inl, refl, rules}
 use Rattle.convoy_survey.proofs.ceiling_answer.ceilings_answer.Goals as goal
 
 pub returns : goal.returns
-returns c =
+returns g c =
     inl
     (record {
       scenario = c.in_ok-input.input.scenario;

@@ -1,24 +1,22 @@
-use Rattle.std.proofs.Common.{◌≡◌, ℕ, ◌+◌, Bool, List, ◌++◌, filter, flat_map, option_map, sym, ap, ◌∙◌}
-use Rattle.std.specs.List.{range_with_len}
-use Rattle.std.proofs.lemmas.List.Elements.{filter-append}
-use Rattle.convoy_scenario.specs.Targets.{targets_at}
-use Rattle.convoy_stamps.proofs.Loops.{flat_map_range_more}
-use Rattle.convoy_survey.specs.Ceilings.{is_asked}
+use Rattle.std.proofs.Common.{List, ℕ, ◌∙◌, sym, subst}
+use Rattle.std.specs.List.{All}
+use Rattle.std.proofs.lemmas.List.{map-id}
+use Rattle.convoy_rows.proofs.OfKeys.{all_rows, by_keys, keys_are}
+use Rattle.convoy_survey.specs.Ceilings.{IsCeiledBy, TellsCeiling, ceiled_target}
+use Rattle.convoy_survey.specs.Surveys.{IsTargetPair}
 use Rattle.convoy_survey.proofs.ceilings.ceilings_by.Goals as goal
 
--- of the targets that pass a test, those of one more message
-one_more_message : (test : ℕ × ℕ → Bool) (of : ℕ → List (ℕ × ℕ)) (m : ℕ) →
-    filter test (flat_map of (range_with_len 0 (m + 1))) ≡ filter test (flat_map of (range_with_len 0 m)) ++ filter test (of m)
-one_more_message test of m =
-    ap (filter test) (flat_map_range_more of m) ∙ filter-append test (flat_map of (range_with_len 0 m)) (of m)
+pub make_each-requires-clause-takes : goal.make_each-requires-clause-takes
+make_each-requires-clause-takes g c = λ κs outlive k d small lent watch is.
+    let lawful = subst (λ (targets : List (ℕ × ℕ)). All (IsTargetPair c.args.scenario.now) targets) (sym c.deref.ensures.value) c.in_ok-targets.ensures.lawful in
+    let target : IsTargetPair c.args.scenario.now lent.now = subst (IsTargetPair c.args.scenario.now) (sym is) (lawful k d small) in
+    (target, c.requires.takes lent.now.0 lent.now.1 target)
 
-pub loop-message-preserved : goal.loop-message-preserved
-loop-message-preserved g c =
-    let test : ℕ × ℕ → Bool = λ target. is_asked c.args.scenario.now (option_map (λ name. name.now) c.args.group) target.1 in
-    let of : ℕ → List (ℕ × ℕ) = targets_at c.args.scenario.now in
-    let m : ℕ = c.loop-message.message in
+pub returns : goal.returns
+returns g c =
+    let tells = TellsCeiling c.args.scenario.now (goal.F-post g c.args.seek.now) in
+    let told = by_keys _ tells _ c.in_ok-rows.rows.items (λ lent watch row made. made) c.in_ok-rows.ensures in
     record {
-      targets = c.in_ok-push_message.ensures.targets
-          ∙ ap (λ (rows : List (ℕ × ℕ)). rows ++ filter test (of m)) c.loop-message.invariant.targets ∙ sym (one_more_message test of m);
-      told = c.in_ok-push_message.ensures.told;
+      targets = keys_are tells (λ t. t) ceiled_target _ c.in_ok-rows.rows.items (λ t row is. is.of_target) told ∙ map-id c.deref.result.now ∙ c.deref.ensures.value ∙ c.in_ok-targets.ensures.targets;
+      told = all_rows tells (IsCeiledBy c.args.scenario.now (goal.F-post g c.args.seek.now)) _ c.in_ok-rows.rows.items (λ t row is. is.told) told;
     }

@@ -1,6 +1,6 @@
 use Rattle.std.proofs.Common.{◌≡◌, ◌≤◌}
 use Rattle.convoy_branch.specs.Aims.{IsAbove}
-use Rattle.convoy_branch.proofs.above.trees_from_above.Given as goal
+use Rattle.convoy_branch.proofs.above.descend.Given as goal
 
 abbrev pub invariant-loop : goal.invariant-loop
 invariant-loop g l = record {
