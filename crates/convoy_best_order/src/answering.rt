@@ -99,13 +99,13 @@ pub fn listing_answer<R: Threads + Wait + Sync, W: Watch + Sync>(
     let counting = counted(alloc, &targets)?;
     let best = best_order(rt, alloc, &scenario, &counting, options, watches)?;
     let other = listed(alloc, &scenario, &best.order)?;
-    let text = text_of(alloc, other)?;
+    let text = listing_text(alloc, other)?;
     let done = end_of(are_judged(&targets), &best);
     Ok(Answer::about(done, text, scenario, input.plain))
 }
 
-/// The text of a scenario with the schedule of its least delays.
-fn text_of(alloc: Global, scenario: Scenario) -> Result<Vec<u8>, AllocError>
+/// The text of a scenario with the schedule of its least delays. Fails where memory runs out, and else never.
+pub fn listing_text(alloc: Global, scenario: Scenario) -> Result<Vec<u8>, AllocError>
     ensures { IfOk result (λ text. text.items ≡ toml_text scenario (least_schedule scenario)) }
 {
     let instance = Instance::of(alloc, scenario)?;

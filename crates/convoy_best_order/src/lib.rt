@@ -3,7 +3,7 @@
 //! late each target is before and after, and why no order is better.
 #![tactic(auto)]
 
-pub use answering::{has_beyond, has_open, listing_answer, order_answer};
+pub use answering::{has_beyond, has_open, listing_answer, listing_text, order_answer};
 pub use best::{Best, Reason, Row};
 pub use choosing::best_order;
 pub use convoy_tables::Format;

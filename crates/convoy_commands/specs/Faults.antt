@@ -9,6 +9,11 @@ use Rattle.convoy_draft.specs.declared.fault.Limit.{Limit}
 use Rattle.convoy_draft.specs.declared.fault.Limit.TheVariants as limits
 use Rattle.convoy_draft.specs.declared.fault.ScenarioFault.{ScenarioFault}
 use Rattle.convoy_draft.specs.declared.fault.ScenarioFault.TheVariants as scenario
+use Rattle.convoy_plans.specs.declared.fault.PlanFault.{PlanFault}
+use Rattle.convoy_plans.specs.declared.fault.PlanFault.TheVariants as plans
+use Rattle.convoy_plans.specs.declared.fault.PlanLimit.{PlanLimit}
+use Rattle.convoy_plans.specs.declared.fault.PlanLimit.TheVariants as plan_limits
+use Rattle.convoy_plans.specs.Shape.{plan_word}
 use Rattle.convoy_ranges.specs.declared.fault.Cause.{Cause}
 use Rattle.convoy_ranges.specs.declared.fault.Cause.TheVariants as lines
 use Rattle.convoy_ranges.specs.declared.fault.RangesFault.{RangesFault}
@@ -17,7 +22,7 @@ use Rattle.convoy_commands.specs.declared.fault.FaultEnding.{FaultEnding}
 use Rattle.convoy_commands.specs.declared.fault.FaultEnding.TheVariants as endings
 use Rattle.convoy_commands.specs.declared.fault.OrderFault.TheVariants as orders
 use Rattle.convoy_commands.specs.declared.fault.Fault.{Fault}
-use Rattle.convoy_commands.specs.declared.fault.Fault.TheVariants.{Scenario, Schedule, Order, Reading, Write, TooManyJobs, Sweep, Ranges, Memory}
+use Rattle.convoy_commands.specs.declared.fault.Fault.TheVariants.{Scenario, Schedule, Order, Reading, Write, TooManyJobs, Sweep, Ranges, Plan, Memory}
 use Rattle.convoy_commands.specs.declared.fault.SweepCause.{SweepCause}
 use Rattle.convoy_commands.specs.declared.fault.SweepCause.TheVariants as sweeps
 
@@ -93,6 +98,22 @@ row_of_ranges ranges.Empty = (55, codes "no round trip")
 row_of_ranges (ranges.Line line cause) = ((row_of_line cause).0, (row_of_line cause).1 ++ decimal line)
 row_of_ranges ranges.Memory = memory_row
 
+-- the word of a limit of plans
+abbrev pub plan_limit_word : PlanLimit → List ℕ
+plan_limit_word plan_limits.Sites = codes "sites"
+plan_limit_word plan_limits.Placements = codes "placements"
+
+-- the number and the text of why a text is that of no plan: what scenarios have too has the number that it has there
+abbrev pub row_of_plan : PlanFault → ℕ × List ℕ
+row_of_plan (plans.Scenario cause) = row_of_scenario cause
+row_of_plan (plans.Shape key) = (2, codes "shape of " ++ plan_word key)
+row_of_plan (plans.OverLimit limit) = (3, codes "over limit " ++ plan_limit_word limit)
+row_of_plan plans.NoRange = (20, codes "no range")
+row_of_plan plans.UnknownSite = (47, codes "unknown site")
+row_of_plan plans.NoSites = (48, codes "group without sites")
+row_of_plan plans.NoPlace = (49, codes "message without from")
+row_of_plan plans.NoPlacement = (50, codes "no placement")
+
 -- a fault's number and its text
 abbrev pub row_of : Fault → ℕ × List ℕ
 row_of (Scenario cause) = row_of_scenario cause
@@ -109,6 +130,7 @@ row_of TooManyJobs = (43, codes "too many jobs")
 row_of (Reading reading.TooManyReads) = (44, codes "too many reads")
 row_of (Sweep cause) = row_of_sweep cause
 row_of (Ranges cause) = row_of_ranges cause
+row_of (Plan cause) = row_of_plan cause
 row_of (Reading reading.Memory) = memory_row
 row_of Memory = memory_row
 
@@ -140,6 +162,11 @@ told_of cause = Scenario cause
 abbrev pub told_of_ranges : RangesFault → Fault
 told_of_ranges ranges.Memory = Memory
 told_of_ranges cause = Ranges cause
+
+-- why a text is that of no plan, as a command tells it
+abbrev pub told_of_plan : PlanFault → Fault
+told_of_plan (plans.Scenario cause) = told_of cause
+told_of_plan cause = Plan cause
 
 -- a fault of a schedule that was given as a list, as a command tells it
 abbrev pub told_of_list : ListFault → Fault

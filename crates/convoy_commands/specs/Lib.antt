@@ -9,6 +9,7 @@ pub use Rattle.convoy_draft.specs.Keys
 pub use Rattle.convoy_times.specs.Measures
 pub use Rattle.convoy_toml.specs.Shape
 pub use Rattle.convoy_ranges.specs.Answers as RangeAnswers
+pub use Rattle.convoy_plans.specs.Shape as PlanShape
 pub use Rattle.convoy_scenario.specs.Memory
 pub use Rattle.convoy_streams.specs.Devices
 pub use Rattle.convoy_streams.specs.Reads

@@ -1,7 +1,8 @@
 ghost use Rattle.std.specs.Prelude.{◌≡◌, ◌≤◌, ◌++◌, length, OnOk, OnErr, IfOk, string_bytes};
-ghost use Rattle.convoy_commands.specs.Faults.{IsShortEnding, ending_text, fault_line_of, limit_word, row_of, row_of_line, row_of_ranges, row_of_scenario, sweep_word, told_of_order};
+ghost use Rattle.convoy_commands.specs.Faults.{IsShortEnding, ending_text, fault_line_of, limit_word, plan_limit_word, row_of, row_of_line, row_of_plan, row_of_ranges, row_of_scenario, sweep_word, told_of_order};
 
 use convoy_packets::ListFault;
+use convoy_plans::{PlanFault, PlanLimit};
 use convoy_ranges::{Cause, RangesFault};
 use convoy_scenario::{Limit, ScenarioFault};
 use convoy_streams::ReadFault;
@@ -40,6 +41,9 @@ pub enum Fault {
     /// A table of round trips gives no ranges.
     #[error(transparent)]
     Ranges(RangesFault),
+    /// The text is that of no plan, or the plan has no placement.
+    #[error(transparent)]
+    Plan(PlanFault),
     /// Memory ran out, which says nothing of the input.
     #[error("out of memory")]
     Memory,
@@ -154,6 +158,20 @@ impl From<RangesFault> for Fault {
     }
 }
 
+impl From<PlanFault> for Fault {
+    ghost use Rattle.std.specs.Prelude.{◌≡◌};
+    ghost use Rattle.convoy_commands.specs.Faults.{told_of_plan};
+
+    ghost from_gives = { λ cause fault. fault ≡ told_of_plan cause };
+
+    fn from(cause: PlanFault) -> Self {
+        match cause {
+            PlanFault::Scenario(cause) => Fault::from(cause),
+            cause => Fault::Plan(cause),
+        }
+    }
+}
+
 impl From<ListFault> for Fault {
     ghost use Rattle.std.specs.Prelude.{◌≡◌};
     ghost use Rattle.convoy_commands.specs.Faults.{told_of_list};
@@ -240,6 +258,7 @@ pub fn fault_row(fault: &Fault) -> (u8, &'static str, FaultEnding)
         ),
         Fault::Sweep(cause) => (45, "no sweep ", FaultEnding::Word(word_of_sweep(*cause))),
         Fault::Ranges(cause) => ranges_row(*cause),
+        Fault::Plan(cause) => plan_row(*cause),
         Fault::Memory | Fault::Schedule(ListFault::Memory) | Fault::Reading(ReadFault::Memory) => (
             11,
             "out of memory",
@@ -302,6 +321,38 @@ fn line_row(cause: Cause) -> (u8, &'static str)
         Cause::Near => (59, "range below a tick in line "),
         Cause::Crossed => (59, "round trip too short in line "),
         Cause::Wide => (59, "range over limit in line "),
+    }
+}
+
+/// The same of a plan.
+fn plan_row(fault: PlanFault) -> (u8, &'static str, FaultEnding)
+    ensures number { result.0 ≡ (row_of_plan fault).0 }
+    ensures text { result.1.now ++ ending_text result.2 ≡ (row_of_plan fault).1 }
+    ensures short { (length result.1.now ≤ 64) × IsShortEnding result.2 }
+{
+    match fault {
+        PlanFault::Scenario(cause) => scenario_row(cause),
+        PlanFault::Shape(key) => (2, "shape of ", FaultEnding::Word(key.word())),
+        PlanFault::OverLimit(limit) => (
+            3,
+            "over limit ",
+            FaultEnding::Word(word_of_plan_limit(limit)),
+        ),
+        PlanFault::NoRange => (20, "no range", NOTHING),
+        PlanFault::UnknownSite => (47, "unknown site", NOTHING),
+        PlanFault::NoSites => (48, "group without sites", NOTHING),
+        PlanFault::NoPlace => (49, "message without from", NOTHING),
+        PlanFault::NoPlacement => (50, "no placement", NOTHING),
+    }
+}
+
+fn word_of_plan_limit(limit: PlanLimit) -> &'static str
+    ensures word { result.now ≡ plan_limit_word limit }
+    ensures short { length result.now ≤ 64 }
+{
+    match limit {
+        PlanLimit::Sites => "sites",
+        PlanLimit::Placements => "placements",
     }
 }
 
