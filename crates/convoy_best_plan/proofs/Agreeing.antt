@@ -70,21 +70,46 @@ keeps w base (Some least) is = by_test (int_le least (pos 1)) (base.links ++ map
   by_test true links = is
   by_test false links = record { groups = is.groups; has = is.has; target_message = is.target_message; target_group = is.target_group }
 
-drafted : (w : WrittenScenario) (tick : Option ℕ) (draft : Draft) → after_tick w tick ≡ Ok draft
-    → (messages : List DraftMessage) × (draft_messages_of tick w.messages ≡ Ok messages) × IsDraftOf w messages draft
+-- the steps, the last first
+from_links : (w : WrittenScenario) (tick : Option ℕ) (written least : Option ℤ) (messages : List DraftMessage) (bundles : List Bundle) (links : List DraftLink) (draft : Draft)
+    → after_links w tick written least messages bundles links ≡ Ok draft → IsDraftOf w messages draft
+from_links w tick written least messages bundles links draft made =
+    let last =
+    after_ok (need_least w.time (delay_or_greatest written bundles) least) (λ _. Ok (with_least least (base_of w tick written messages bundles links))) draft made in
+    subst (IsDraftOf w messages) {x = with_least least (base_of w tick written messages bundles links)}
+    (same_ok (with_least least (base_of w tick written messages bundles links)) draft last.2)
+    (keeps w (base_of w tick written messages bundles links) least (record { groups = refl; has = refl; target_message = refl; target_group = refl }))
+
+from_bundles : (w : WrittenScenario) (tick : Option ℕ) (written least : Option ℤ) (messages : List DraftMessage) (bundles : List Bundle) (draft : Draft)
+    → after_bundles w tick written least messages bundles ≡ Ok draft → IsDraftOf w messages draft
+from_bundles w tick written least messages bundles draft made =
+    let links = after_ok (links_of_bundles bundles) (after_links w tick written least messages bundles) draft made in
+    from_links w tick written least messages bundles links.0 draft links.2
+
+from_messages : (w : WrittenScenario) (tick : Option ℕ) (written least : Option ℤ) (messages : List DraftMessage) (draft : Draft)
+    → after_messages w tick written least messages ≡ Ok draft → IsDraftOf w messages draft
+from_messages w tick written least messages draft made =
+    let bundles = after_ok (bundles_of tick w.links) (after_bundles w tick written least messages) draft made in
+    from_bundles w tick written least messages bundles.0 draft bundles.2
+
+-- the draft has the messages that are written
+abbrev IsDrafted : WrittenScenario → Option ℕ → Draft → Type 0
+IsDrafted w tick draft = (messages : List DraftMessage) × (draft_messages_of tick w.messages ≡ Ok messages) × IsDraftOf w messages draft
+
+from_least : (w : WrittenScenario) (tick : Option ℕ) (written least : Option ℤ) (draft : Draft) → after_least w tick written least ≡ Ok draft → IsDrafted w tick draft
+from_least w tick written least draft made =
+    let messages = after_ok (draft_messages_of tick w.messages) (after_messages w tick written least) draft made in
+    (messages.0, messages.1, from_messages w tick written least messages.0 draft messages.2)
+
+from_delay : (w : WrittenScenario) (tick : Option ℕ) (written : Option ℤ) (draft : Draft) → after_delay w tick written ≡ Ok draft → IsDrafted w tick draft
+from_delay w tick written draft made =
+    let least = after_ok (whole_if_written tick Least w.least) (after_least w tick written) draft made in
+    from_least w tick written least.0 draft least.2
+
+drafted : (w : WrittenScenario) (tick : Option ℕ) (draft : Draft) → after_tick w tick ≡ Ok draft → IsDrafted w tick draft
 drafted w tick draft made =
     let delay = after_ok (whole_if_written tick Delay w.delay) (after_delay w tick) draft made in
-    let least = after_ok (whole_if_written tick Least w.least) (after_least w tick delay.0) draft delay.2 in
-    let messages = after_ok (draft_messages_of tick w.messages) (after_messages w tick delay.0 least.0) draft least.2 in
-    let bundles = after_ok (bundles_of tick w.links) (after_bundles w tick delay.0 least.0 messages.0) draft messages.2 in
-    let links = after_ok (links_of_bundles bundles.0) (after_links w tick delay.0 least.0 messages.0 bundles.0) draft bundles.2 in
-    let base : Draft = base_of w tick delay.0 messages.0 bundles.0 links.0 in
-    let last = after_ok (need_least w.time (delay_or_greatest delay.0 bundles.0) least.0) (λ _. Ok (with_least least.0 base)) draft links.2 in (
-      messages.0,
-      messages.1,
-      subst (IsDraftOf w messages.0) (same_ok (with_least least.0 base) draft last.2)
-          (keeps w base least.0 (record { groups = refl; has = refl; target_message = refl; target_group = refl })),
-    )
+    from_delay w tick delay.0 draft delay.2
 
 -- ---- the scenario of a placement
 -- the scenario has these messages of the plan

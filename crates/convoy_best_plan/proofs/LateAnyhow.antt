@@ -21,11 +21,12 @@ use Rattle.convoy_plans.specs.declared.plan.Origin.TheVariants.{Site, Group}
 use Rattle.convoy_plans.specs.PlanLaws.{MessagesAreOfPlans, RangesAreOfSites, sender_for, site_of}
 use Rattle.convoy_plans.specs.Placements.{Completes, scenario_at}
 use Rattle.convoy_plans.specs.Plans.{IsOrigin, IsPlan, Plan, most_between, origin_of}
+use Rattle.convoy_branch.specs.Options.{Settings}
 use Rattle.convoy_best_order.specs.declared.excess.Excess.{Excess}
 use Rattle.convoy_best_order.specs.declared.target.Target.{Target}
 use Rattle.convoy_best_order.specs.declared.wanted.Wanted.{Wanted}
 use Rattle.convoy_best_order.specs.Excesses.{IsAtMost}
-use Rattle.convoy_best_order.specs.Targets.{MayBeTarget, asked_of, limit_of}
+use Rattle.convoy_best_order.specs.Targets.{MayBeTarget, asked_of, counted, limit_of}
 use Rattle.convoy_best_order.proofs.Asking.{well_asked}
 use Rattle.convoy_best_order.proofs.Relisting.{in_order, is_listed}
 use Rattle.convoy_best_plan.specs.declared.planned.Planned.{Planned}
@@ -151,10 +152,10 @@ pub record Used : Type 0 where
   pub ranges : RangesAreOfSites
   pub messages : MessagesAreOfPlans
 
-pub late_passed : (used : Used) (wanted : Wanted) (plan : Plan) (planned : Planned) (sites : List (Option ℕ)) (tick : ℕ) → IsPlan plan → plan.tick ≡ Some tick
-    → IsFound wanted plan planned → IsLateAnyhow plan planned.scenario sites planned.targets.items (reach_of planned)
+pub late_passed : (used : Used) (settings : Settings) (wanted : Wanted) (plan : Plan) (planned : Planned) (sites : List (Option ℕ)) (tick : ℕ) → IsPlan plan → plan.tick ≡ Some tick
+    → IsFound settings wanted plan planned → IsLateAnyhow plan planned.scenario sites planned.targets.items (reach_of planned)
     → (placement : List ℕ) → Completes placement sites → IsNotBelow wanted plan planned.floor placement
-late_passed used wanted plan planned sites tick is_plan long is late placement all scenario made order in_order_is =
+late_passed used settings wanted plan planned sites tick is_plan long is late placement all scenario made order in_order_is =
     let target : Target = late.target in
     let first : Scenario = planned.scenario in
     let same = agree plan tick planned.placement.items placement first scenario long is.choice.made made in
@@ -177,7 +178,7 @@ late_passed used wanted plan planned sites tick is_plan long is late placement a
     (longest_to_commit scenario target.message target.group) run.0 late.late.latency_low commit_same commit run.2 in
     record {
       target = target;
-      of_target = subst (λ (ts : List Target). Contains ts target) (is.choice.targets ∙ sym (same_targets wanted plan.deadlines first scenario same)) late.of_target;
+      of_target = subst (λ (ts : List Target). Contains ts target) (is.choice.targets ∙ sym (ap counted (same_targets wanted plan.deadlines first scenario same))) late.of_target;
       instance = in_order (asked_of scenario target) order;
       made = is_listed used.have used.give (asked_of scenario target) order (well_asked scenario target well may) in_order_is;
       latency = run.0;

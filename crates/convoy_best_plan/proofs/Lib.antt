@@ -1,5 +1,6 @@
 pub mod Lower
 pub mod Found
+pub mod Choices
 pub mod Placing
 pub mod LastListed
 pub mod Commits
@@ -7,3 +8,4 @@ pub mod Agreeing
 pub mod Summing
 pub mod LateAnyhow
 pub mod Passing
+pub mod ReadPlans

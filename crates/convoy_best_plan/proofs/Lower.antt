@@ -1,8 +1,8 @@
 -- Of two floors the lower, and that what reaches the one reaches the other that is no higher.
-use Rattle.std.proofs.Common.{◌≡◌, ℕ, ◌+◌, ◌≤◌, Bool, true, false, cond, nat_lt, not, ◌&&◌, ◌||◌, inl, inr, refl, arith}
+use Rattle.std.proofs.Common.{◌≡◌, ℕ, ◌+◌, ◌≤◌, Bool, true, false, cond, nat_lt, not, ◌&&◌, ◌||◌, ◌⊎◌, inl, inr, refl, arith}
 use Rattle.std.proofs.lemmas.Bool.{ltb-true, ltb-false}
 use Rattle.convoy_best_order.specs.declared.excess.Excess.{Excess}
-use Rattle.convoy_best_order.specs.Excesses.{IsAtMost, IsLess, is_less}
+use Rattle.convoy_best_order.specs.Excesses.{IsAtMost, IsLess, is_less, lesser}
 use Rattle.convoy_best_plan.specs.declared.floor.Floor.{Floor}
 use Rattle.convoy_best_plan.specs.Floors.{IsNoHigher, excess_at, is_lower, lower, one_more}
 
@@ -39,6 +39,20 @@ most_of a b is = ltb-false (a.latency + b.limit) (b.latency + a.limit) is
 most_of_less : (a b : Excess) → IsLess a b → IsAtMost a b
 most_of_less a b less = omega (arith, less)
 
+-- the one is less, or the other is no greater
+pub less_or_most : (a b : Excess) → IsLess a b ⊎ IsAtMost b a
+less_or_most a b = by_test (is_less a b) refl where
+  by_test : (is : Bool) → is_less a b ≡ is → IsLess a b ⊎ IsAtMost b a
+  by_test true is = inl (less_of a b is)
+  by_test false is = inr (most_of a b is)
+
+-- the lesser of two is no greater than either; and unless the first is the less, the second is no greater than it
+pub lesser_both : (a b : Excess) → IsAtMost (lesser a b) a × IsAtMost (lesser a b) b × (IsLess a b ⊎ IsAtMost b (lesser a b))
+lesser_both a b = by_test (is_less b a) refl where
+  by_test : (is : Bool) → is_less b a ≡ is → IsAtMost (cond is b a) a × IsAtMost (cond is b a) b × (IsLess a b ⊎ IsAtMost b (cond is b a))
+  by_test true is = (most_of_less b a (less_of b a is), omega arith, inr (omega arith))
+  by_test false is = (omega arith, most_of b a is, less_or_most a b)
+
 -- a floor that is lower is no higher, and one that is not is no lower
 pub no_higher_of : (a b : Floor) → is_lower a b ≡ true → IsNoHigher a b
 no_higher_of a b is = by_tests (is_less a.least b.least) refl (is_less b.least a.least) refl (nat_lt a.ties b.ties) refl is where
@@ -66,6 +80,24 @@ lower_both a b = by_test (is_lower b a) refl where
   by_test : (is : Bool) → is_lower b a ≡ is → IsNoHigher (cond is b a) a × IsNoHigher (cond is b a) b
   by_test true is = (no_higher_of b a is, no_higher_self b)
   by_test false is = (no_higher_self a, no_lower_of b a is)
+
+-- what is no higher than either is no higher than the lower of two
+under_lower : (reach a b : Floor) → IsNoHigher reach a → IsNoHigher reach b → IsNoHigher reach (lower a b)
+under_lower reach a b first second = by_test (is_lower b a) where
+  by_test : (is : Bool) → IsNoHigher reach (cond is b a)
+  by_test true = second
+  by_test false = first
+
+-- the same where something else may hold
+pub under_or : (Else : Type 0) (reach a b : Floor) → IsNoHigher reach a ⊎ Else → IsNoHigher reach b ⊎ Else → IsNoHigher reach (lower a b) ⊎ Else
+under_or Else reach a b (inl first) (inl second) = inl (under_lower reach a b first second)
+under_or Else reach a b (inl first) (inr other) = inr other
+under_or Else reach a b (inr other) second = inr other
+
+pub after_or : (Else : Type 0) (a b c : Floor) → IsNoHigher a b ⊎ Else → IsNoHigher b c ⊎ Else → IsNoHigher a c ⊎ Else
+after_or Else a b c (inl first) (inl second) = inl (no_higher_after a b c first second)
+after_or Else a b c (inl first) (inr other) = inr other
+after_or Else a b c (inr other) second = inr other
 
 -- ---- what a choice of a total reaches
 pub reached_lower : (floor other : Floor) (total : ℕ) → IsNoHigher floor other → IsAtMost (excess_at floor total) (excess_at other total)

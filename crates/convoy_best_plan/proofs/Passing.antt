@@ -30,6 +30,14 @@ one_more_site wanted plan old new sites group i site within here fallen before n
       let same : k ≡ i = omega (arith, low, below) in
       next placement is (completes_more placement sites group site within all (sym at ∙ ap (λ n. get_or (sites_of plan group) n 0) same ∙ here))
 
+-- the same with the sites as they are found: those of the group, and those with one more
+pub next_site : (wanted : Wanted) (plan : Plan) (old new : Option Planned) (sites made more : List (Option ℕ)) (homes : List ℕ) (group i : ℕ) → group < length sites
+    → homes ≡ sites_of plan group → more ≡ made → made ≡ set sites group (Some (get_or homes i 0)) → HasFallen old new → PassedUpTo wanted plan old sites group i
+    → ArePassed wanted plan new more → PassedUpTo wanted plan new sites group (i + 1)
+next_site wanted plan old new sites made more homes group i within same copied is fallen before next =
+    one_more_site wanted plan old new sites group i (get_or homes i 0) within (ap (λ (ns : List ℕ). get_or ns i 0) (sym same)) fallen before
+    (subst (λ (ss : List (Option ℕ)). ArePassed wanted plan new ss) (copied ∙ is) next)
+
 -- where a number stands
 place_of : (ns : List ℕ) (s : ℕ) → has s ns ≡ true → (k : ℕ) × (k < length ns) × (get_or ns k 0 ≡ s)
 place_of [] s some = absurd (false≢true some)
@@ -38,10 +46,12 @@ place_of (n ∷ ns) s some = elim (or_cases (n == s) (has s ns) some) [
   | inr later ↦ let found = place_of ns s later in (suc found.0, omega arith, found.2)
 ]
 
-pub all_sites : (wanted : Wanted) (plan : Plan) (chosen : Option Planned) (sites : List (Option ℕ)) (group count : ℕ) → group < length plan.housed
-    → length (sites_of plan group) ≤ count → PassedUpTo wanted plan chosen sites group count → ArePassed wanted plan chosen sites
-all_sites wanted plan chosen sites group count known many passed placement is all = elim (is.housed group) [
-  | inl home ↦ let found = place_of (sites_of plan group) (site_at placement group) home in passed placement is all found.0 (omega (arith, found.1, many)) found.2
+pub all_sites : (wanted : Wanted) (plan : Plan) (chosen : Option Planned) (sites : List (Option ℕ)) (homes : List ℕ) (group count : ℕ) → group < length plan.housed
+    → homes ≡ sites_of plan group → length homes ≤ count → PassedUpTo wanted plan chosen sites group count → ArePassed wanted plan chosen sites
+all_sites wanted plan chosen sites homes group count known same many passed placement is all = elim (is.housed group) [
+  | inl home ↦
+      let found = place_of (sites_of plan group) (site_at placement group) home in
+      passed placement is all found.0 (omega (arith, found.1, many, ap length same)) found.2
   | inr past ↦ absurd (omega (arith, past, known))
 ]
 

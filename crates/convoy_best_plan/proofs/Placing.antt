@@ -2,9 +2,9 @@
 use Rattle.std.proofs.Common.{◌≡◌, ℕ, ◌+◌, ◌<◌, ◌≤◌, ◌==◌, Bool, true, false, cond, List, length, map, get_or, nat_lt, replicate, set, Option, Some, None, is_none, refl, sym, ap, subst, ◌∙◌, arith}
 use Rattle.std.specs.List.{slice_get}
 use Rattle.std.proofs.lemmas.Bool.{both_ways, eq-eqb, eqb-true, ltb-false, ltb-true}
-use Rattle.std.proofs.lemmas.List.{ext_get_or, get_or-map, get_or-replicate, get_or-set_other, get_or-set_same, get_or_past, length-replicate}
+use Rattle.std.proofs.lemmas.List.{ext_get_or, get_or-map, get_or-replicate, get_or-set_other, get_or-set_same, get_or_past, length-replicate, length-set}
 use Rattle.std.proofs.lemmas.List.Sums.{sum_by-set, sum_by_more_le}
-use Rattle.std.proofs.lemmas.Option.{get_or_from_slice_get, same_Some, slice_get_within}
+use Rattle.std.proofs.lemmas.Option.{get_or_from_slice_get, none-some, same_Some, slice_get_within}
 use Rattle.convoy_plans.specs.Placements.{Completes, site_at}
 use Rattle.convoy_best_plan.specs.Standings.{left_of}
 
@@ -31,6 +31,15 @@ one_less sites g site here =
     let one = ap {B = ℕ} (λ (s : Option ℕ). cond (is_none s) 1 0) at in
     omega (arith, sums, one)
 
+-- the same of a copy of these sites
+pub one_less_of : (sites made more : List (Option ℕ)) (g site : ℕ) → slice_get sites g ≡ Some None → more ≡ made → made ≡ set sites g (Some site)
+    → left_of more + 1 ≡ left_of sites
+one_less_of sites made more g site here same is = ap (λ (ss : List (Option ℕ)). left_of ss + 1) (same ∙ is) ∙ one_less sites g site here
+
+-- they stay as many
+pub as_long : (sites made more : List (Option ℕ)) (g site n : ℕ) → more ≡ made → made ≡ set sites g (Some site) → length sites ≡ n → length more ≡ n
+as_long sites made more g site n same is long = ap length (same ∙ is) ∙ length-set sites g (Some site) ∙ long
+
 -- a placement with these sites, and with this one of one more group, has all of them
 pub completes_more : (placement : List ℕ) (sites : List (Option ℕ)) (g site : ℕ) → g < length sites → Completes placement sites → site_at placement g ≡ site
     → Completes placement (set sites g (Some site))
@@ -56,7 +65,7 @@ one_placement placement other all long =
 pub completes_none : (placement : List ℕ) (n : ℕ) → Completes placement (replicate n None)
 completes_none placement n g s is = absurd (by_place (nat_lt g n) refl) where
   by_place : (b : Bool) → nat_lt g n ≡ b → ⊥
-  by_place true here = let none = get_or-replicate {A = Option ℕ} n g None None (ltb-true g n here) in let two = sym none ∙ is in cc
+  by_place true here = let none = get_or-replicate {A = Option ℕ} n g None None (ltb-true g n here) in none-some s (sym none ∙ is)
   by_place false past =
       let none = get_or_past (replicate n None) g None (omega (arith, length-replicate {A = Option ℕ} n None, ltb-false g n past)) in
-      let two = sym none ∙ is in cc
+      none-some s (sym none ∙ is)

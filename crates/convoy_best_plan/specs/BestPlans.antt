@@ -1,16 +1,18 @@
 -- The best choice of a plan: a placement of its groups at its sites with an order of the groups, and what no choice is below.
-use Rattle.std.specs.Prelude.{◌≡◌, ℕ, List, Option, Some, None, Ok, All}
+use Rattle.std.specs.Prelude.{◌≡◌, ◌⊎◌, ℕ, List, Option, Some, None, Ok, All}
 use Rattle.convoy_scenario.specs.Scenario.{Scenario}
 use Rattle.convoy_plans.specs.Placements.{IsPlacement, scenario_at}
 use Rattle.convoy_plans.specs.Plans.{Plan}
 use Rattle.convoy_branch.specs.Options.{Settings}
+use Rattle.convoy_best_order.specs.declared.best.Best.{Best}
 use Rattle.convoy_best_order.specs.declared.excess.Excess.{Excess}
 use Rattle.convoy_best_order.specs.declared.target.Target.{Target}
 use Rattle.convoy_best_order.specs.declared.wanted.Wanted.{Wanted}
 use Rattle.convoy_best_order.specs.Best.{IsBest}
+use Rattle.convoy_best_order.specs.Excesses.{IsLess}
 use Rattle.convoy_best_order.specs.OrderLaws.{IsExceededIn}
 use Rattle.convoy_best_order.specs.Orders.{IsOrder}
-use Rattle.convoy_best_order.specs.Targets.{MayBeTarget, targets_of}
+use Rattle.convoy_best_order.specs.Targets.{MayBeTarget, counted, targets_of}
 use Rattle.convoy_best_plan.specs.declared.floor.Floor.{Floor}
 use Rattle.convoy_best_plan.specs.declared.planned.Planned.{Planned}
 use Rattle.convoy_best_plan.specs.Floors.{IsNoHigher, excess_at}
@@ -21,9 +23,9 @@ use Rattle.convoy_best_plan.specs.Totals.{total_of}
 abbrev pub IsExceeded : Scenario → List Target → Excess → Type 0
 IsExceeded scenario targets least = (order : List ℕ) → IsOrder scenario order → IsExceededIn scenario targets order least
 
--- the targets of a scenario of the plan
+-- the targets of a scenario of the plan that count: where one of them has a deadline those that have one
 abbrev pub targets_by : Wanted → Plan → Scenario → List Target
-targets_by wanted plan scenario = targets_of wanted plan.deadlines scenario
+targets_by wanted plan scenario = counted (targets_of wanted plan.deadlines scenario)
 
 -- where the placement has a scenario, no order is below the floor there
 abbrev pub IsNotBelow : Wanted → Plan → Floor → List ℕ → Type 0
@@ -49,11 +51,26 @@ pub record IsChoice (settings : Settings) (wanted : Wanted) (plan : Plan) (plann
 abbrev pub reach_of : Planned → Floor
 reach_of planned = record { least = planned.best.most; ties = planned.total }
 
+-- For some placement of the plan it may stay open which order is the best: what may be told of an order there, with these settings, has a least that is below its most.
+pub record IsOpenSomewhere (settings : Settings) (wanted : Wanted) (plan : Plan) : Type 0 where
+  pub placement : List ℕ
+  pub is : IsPlacement plan placement
+  pub scenario : Scenario
+  pub made : scenario_at plan placement ≡ Ok scenario
+  pub best : Best
+  pub found : IsBest settings scenario (targets_by wanted plan scenario) best
+  pub is_open : IsLess best.least best.most
+
+-- The floor of the choice is what it keeps, and no less, unless for some placement it may stay open which order is the best.
+abbrev pub IsExact : Settings → Wanted → Plan → Planned → Type 0
+IsExact settings wanted plan planned = IsNoHigher (reach_of planned) planned.floor ⊎ IsOpenSomewhere settings wanted plan
+
 -- THE BEST PLAN
--- It is a choice of the plan, and no placement has an order that is below its floor. So where the floor is what the choice keeps, no choice is better: so says the law `NoChoiceIsBetter`.
+-- It is a choice of the plan, and no placement has an order that is below its floor: so says the law `NoChoiceIsBetter`. Where the floor is what the choice keeps no choice is better; it is, unless for some placement it may stay open which order is the best.
 pub record IsBestPlan (settings : Settings) (wanted : Wanted) (plan : Plan) (planned : Planned) : Type 0 where
   pub choice : IsChoice settings wanted plan planned
   pub floor : IsNoHigher planned.floor (reach_of planned)
+  pub exact : IsExact settings wanted plan planned
   pub none_below : (placement : List ℕ) → IsPlacement plan placement → IsNotBelow wanted plan planned.floor placement
 
 -- what may be answered: the best plan, or that no placement has a scenario

@@ -1,5 +1,6 @@
 -- How a search over placements stands: the best choice so far, and which placements are passed.
-use Rattle.std.specs.Prelude.{ℕ, ⊤, if◌then◌else◌, List, Option, Some, None, is_none}
+use Rattle.std.specs.Prelude.{ℕ, ⊤, if◌then◌else◌, List, Vec, Option, Some, None, is_none}
+use Rattle.std.specs.Global.{Global}
 use Rattle.std.specs.List.{count_by}
 use Rattle.convoy_scenario.specs.Scenario.{Scenario}
 use Rattle.convoy_plans.specs.Placements.{Completes, IsPlacement}
@@ -9,21 +10,24 @@ use Rattle.convoy_best_order.specs.declared.best.Best.{Best}
 use Rattle.convoy_best_order.specs.declared.target.Target.{Target}
 use Rattle.convoy_best_order.specs.declared.wanted.Wanted.{Wanted}
 use Rattle.convoy_best_order.specs.Best.{IsBest}
+use Rattle.convoy_best_order.specs.Excesses.{IsLess, lesser}
 use Rattle.convoy_best_plan.specs.declared.planned.Planned.{Planned}
-use Rattle.convoy_best_plan.specs.BestPlans.{HasNoScenario, IsChoice, IsExceeded, IsNotBelow, reach_of}
+use Rattle.convoy_best_plan.specs.BestPlans.{HasNoScenario, IsChoice, IsExact, IsExceeded, IsNotBelow, reach_of}
 use Rattle.convoy_best_plan.specs.Floors.{IsNoHigher, excess_at, is_lower, lower}
 use Rattle.convoy_best_plan.specs.Totals.{total_of}
 
--- It is a choice, found with some settings, and its floor is no higher than what it keeps.
-pub record IsFound (wanted : Wanted) (plan : Plan) (planned : Planned) : Type 0 where
-  pub settings : Settings
-  pub choice : IsChoice settings wanted plan planned
+-- THE CHOICE SO FAR
+-- It is a choice, found with some settings. Its floor is no higher than what it keeps; and it is no lower, unless for some placement it may stay open, with these settings, which order is the best.
+pub record IsFound (settings : Settings) (wanted : Wanted) (plan : Plan) (planned : Planned) : Type 0 where
+  pub used : Settings
+  pub choice : IsChoice used wanted plan planned
   pub floor : IsNoHigher planned.floor (reach_of planned)
+  pub exact : IsExact settings wanted plan planned
 
 -- the best choice so far, if there is one, is one
-abbrev pub IsStanding : Wanted → Plan → Option Planned → Type 0
-IsStanding wanted plan None = ⊤
-IsStanding wanted plan (Some planned) = IsFound wanted plan planned
+abbrev pub IsStanding : Settings → Wanted → Plan → Option Planned → Type 0
+IsStanding settings wanted plan None = ⊤
+IsStanding settings wanted plan (Some planned) = IsFound settings wanted plan planned
 
 -- a choice that there was is no lower than the one that there is
 abbrev pub HasFallen : Option Planned → Option Planned → Type 0
@@ -53,9 +57,25 @@ better (Some planned) found =
     then record found { floor = lower planned.floor found.floor }
     else record planned { floor = lower planned.floor found.floor }
 
+-- ONE PLACEMENT
 -- some search with some settings found that this is the best order for these targets
 abbrev pub IsBestBySome : Scenario → List Target → Best → Type 0
 IsBestBySome scenario targets best = (settings : Settings) × IsBest settings scenario targets best
+
+-- where it is open whether some order is better, the search was one with these settings
+abbrev pub IsOpenByThese : Settings → Scenario → List Target → Best → Type 0
+IsOpenByThese settings scenario targets best = IsLess best.least best.most → IsBest settings scenario targets best
+
+-- The choice of a placement with its scenario, and with the best order there for these targets. Its floor is the least that is told of that order, or the most where that is less.
+abbrev pub choice_of : Vec ℕ Global → Scenario → Vec Target Global → Best → Planned
+choice_of placement scenario targets best = record {
+  placement = placement;
+  scenario = scenario;
+  targets = targets;
+  best = best;
+  total = total_of scenario;
+  floor = record { least = lesser best.least best.most; ties = total_of scenario };
+}
 
 -- no order of the groups is better than that choice, if there is one
 abbrev pub IsOutdone : Option Planned → Scenario → List Target → Type 0

@@ -1,6 +1,7 @@
 //! Whether all placements that have some sites are passed at once.
 
 ghost use Rattle.std.specs.Prelude.{◌≡◌, Some, IsTrue};
+ghost use Rattle.convoy_branch.specs.Options.{Settings};
 ghost use Rattle.convoy_best_order.specs.declared.wanted.Wanted.{Wanted};
 ghost use Rattle.convoy_best_plan.specs.Standings.{ArePassed, IsFound, IsStanding};
 
@@ -17,18 +18,18 @@ use convoy_sim::protocol_laws::delivered_after_commit;
 /// Whether no placement that has these sites is better than the best choice so far, as some target is too late by its
 /// commit alone. Nothing is known of plans whose ticks have no length.
 pub(crate) fn is_cut(plan: &Plan, chosen: &Option<Planned>, sites: &[Option<usize>]) -> bool
-    ensures { (wanted : Wanted) → IsStanding wanted plan.now chosen.now → IsTrue result
+    ensures { (settings : Settings) (wanted : Wanted) → IsStanding settings wanted plan.now chosen.now → IsTrue result
         → ArePassed wanted plan.now chosen.now sites.now }
 {
     match chosen {
         None => false,
-        Some(planned) => is_outdone(plan, planned, sites),
+        Some(planned) => is_late_below(plan, planned, sites),
     }
 }
 
 /// The same of a choice that there is.
-fn is_outdone(plan: &Plan, planned: &Planned, sites: &[Option<usize>]) -> bool
-    ensures { (wanted : Wanted) → IsFound wanted plan.now planned.now → IsTrue result
+fn is_late_below(plan: &Plan, planned: &Planned, sites: &[Option<usize>]) -> bool
+    ensures { (settings : Settings) (wanted : Wanted) → IsFound settings wanted plan.now planned.now → IsTrue result
         → ArePassed wanted plan.now (Some planned.now) sites.now }
 {
     scenarios_have_drafts();

@@ -20,13 +20,42 @@ use convoy_seek::seek;
 use convoy_sim::{Record, latency};
 use std::alloc::{AllocError, Global};
 
-/// How many schedules are simulated at most for a target at a placement before its order is searched.
-const SIMULATIONS: u64 = 300;
+/// How many schedules are simulated at most for a target at a placement to begin with.
+pub(crate) const FEW_SIMULATIONS: u64 = 300;
+
+/// How many are simulated at most before the order of the groups there is searched.
+const MORE_SIMULATIONS: u64 = 3000;
 
 /// Whether in each order of the groups some schedule of some target surely exceeds its limit by so much that the choice is
-/// below no floor: by schedules that served at other placements first, and then by some that are sought. Fails where memory
-/// runs out, and else never.
+/// below no floor: by schedules that served at other placements first, and then by some that are sought, a few and then more.
+/// Fails where memory runs out, and else never.
 pub(crate) fn is_exceeded(
+    alloc: Global,
+    scenario: &Scenario,
+    targets: &[Target],
+    reach: Floor,
+    total: u64,
+    served: &mut Vec<TargetHints>,
+) -> Result<bool, AllocError>
+    requires { All (MayBeTarget scenario.now) targets.now }
+    ensures { IfOk result (λ is. IsTrue is → IsExceeded scenario.now targets.now (excess_at reach total)) }
+{
+    if is_soon_exceeded(alloc, scenario, targets, reach, total, served)? {
+        return Ok(true);
+    }
+    is_some_sought(
+        alloc,
+        scenario,
+        targets,
+        reach,
+        total,
+        MORE_SIMULATIONS,
+        served,
+    )
+}
+
+/// The same by few schedules.
+pub(crate) fn is_soon_exceeded(
     alloc: Global,
     scenario: &Scenario,
     targets: &[Target],
@@ -42,8 +71,41 @@ pub(crate) fn is_exceeded(
             return Ok(true);
         }
     }
+    is_some_sought(
+        alloc,
+        scenario,
+        targets,
+        reach,
+        total,
+        FEW_SIMULATIONS,
+        served,
+    )
+}
+
+/// Whether a schedule that is sought shows it of some target, with so many simulations for each at most.
+fn is_some_sought(
+    alloc: Global,
+    scenario: &Scenario,
+    targets: &[Target],
+    reach: Floor,
+    total: u64,
+    simulations: u64,
+    served: &mut Vec<TargetHints>,
+) -> Result<bool, AllocError>
+    requires { All (MayBeTarget scenario.now) targets.now }
+    ensures { IfOk result (λ is. IsTrue is → IsExceeded scenario.now targets.now (excess_at reach total)) }
+{
     for place in 0..targets.len() {
-        if is_sought(alloc, scenario, targets, reach, total, place, served)? {
+        if is_sought(
+            alloc,
+            scenario,
+            targets,
+            reach,
+            total,
+            place,
+            simulations,
+            served,
+        )? {
             return Ok(true);
         }
     }
@@ -163,6 +225,7 @@ fn is_sought(
     reach: Floor,
     total: u64,
     place: usize,
+    simulations: u64,
     served: &mut Vec<TargetHints>,
 ) -> Result<bool, AllocError>
     requires lawful { All (MayBeTarget scenario.now) targets.now }
@@ -174,7 +237,8 @@ fn is_sought(
     let _count = scenario.group_count();
     let target = targets[place];
     let instance = last_listed(alloc, scenario, target)?;
-    let found = sought(alloc, &instance, target, reach, total)?;
+    let until = reach.latency_at(total, target.deadline.unwrap_or(0));
+    let found = sought(alloc, &instance, until, simulations)?;
     let past = is_found_past(target, reach, total, &found);
     if past {
         let hint = Hint::of(alloc, &instance, found.schedule())?;
@@ -191,21 +255,19 @@ fn is_found_past(target: Target, reach: Floor, total: u64, found: &Record) -> bo
     is_past_by(target, reach, total, latency)
 }
 
-/// The record of a schedule of an instance that is sought until the target is so late.
-fn sought(
+/// The record of a schedule of an instance that is sought until the latency is so long, with so many simulations at most.
+pub(crate) fn sought(
     alloc: Global,
     instance: &Instance,
-    target: Target,
-    reach: Floor,
-    total: u64,
+    until: u32,
+    simulations: u64,
 ) -> Result<Record, AllocError>
     ensures { IfOk result (λ found. found.scenario ≡ instance.now) }
 {
     fixed_order_is_order();
-    let until = reach.latency_at(total, target.deadline.unwrap_or(0));
     let greatest = Schedule::greatest(alloc, instance.table())?;
     let known = Record::of(instance, greatest);
-    match seek(alloc, instance, known, until, SIMULATIONS) {
+    match seek(alloc, instance, known, until, simulations) {
         Ok(found) => Ok(found),
         Err((_, error)) => Err(error),
     }
@@ -225,7 +287,7 @@ fn bring_first(at: usize, hint: usize, served: &mut Vec<TargetHints>) -> Result<
 }
 
 /// Puts a hint for the target at this place in front of all.
-fn put_hint(
+pub(crate) fn put_hint(
     alloc: Global,
     place: usize,
     hint: Hint,

@@ -136,7 +136,7 @@ fn most_known(plan: &Plan, from: Option<usize>, to: Option<usize>) -> u32
 }
 
 /// The site from which something is sent, if it is known.
-fn origin_site(sites: &[Option<usize>], from: Origin) -> Option<usize>
+pub(crate) fn origin_site(sites: &[Option<usize>], from: Origin) -> Option<usize>
     ensures { result ≡ origin_site sites.now from }
 {
     match from {
@@ -146,7 +146,7 @@ fn origin_site(sites: &[Option<usize>], from: Origin) -> Option<usize>
 }
 
 /// The site of a group, if it has one.
-fn site_known(sites: &[Option<usize>], group: usize) -> Option<usize>
+pub(crate) fn site_known(sites: &[Option<usize>], group: usize) -> Option<usize>
     ensures { result ≡ site_known sites.now group }
 {
     match sites.get(group) {

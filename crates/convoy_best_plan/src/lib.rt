@@ -3,10 +3,13 @@
 //! far, none of them is looked at.
 #![tactic(auto)]
 
+pub use answering::{placing_answer, plan_answer};
+pub use convoy_tables::Format;
 pub use floor::Floor;
 pub use planned::Planned;
 pub use planning::best_plan;
 
+mod answering;
 pub mod choice_laws;
 mod cutting;
 mod excluding;
@@ -15,9 +18,14 @@ mod hints;
 mod judging;
 mod last;
 mod leaves;
+mod likely;
+mod near;
 mod planned;
 mod planning;
 mod searching;
 mod standing;
+mod starting;
+mod targets;
+mod telling;
 mod totals;
 mod visiting;

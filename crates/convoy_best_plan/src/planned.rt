@@ -1,5 +1,6 @@
 ghost use Rattle.std.specs.Prelude.{◌≡◌};
 ghost use Rattle.convoy_best_plan.specs.BestPlans.{reach_of};
+ghost use Rattle.convoy_best_plan.specs.PlanTexts.{as_told};
 
 use super::floor::Floor;
 use convoy_best_order::{Best, Target};
@@ -30,6 +31,31 @@ impl Planned {
         Floor {
             least: self.best.most,
             ties: self.total,
+        }
+    }
+
+    /// The choice as it is told: what no choice is below stands in place of what no order is below at its placement.
+    pub(crate) fn as_told(self) -> Planned
+        ensures { result ≡ as_told self }
+    {
+        let Planned {
+            placement,
+            scenario,
+            targets,
+            best,
+            total,
+            floor,
+        } = self;
+        Planned {
+            placement,
+            scenario,
+            targets,
+            best: Best {
+                least: floor.least,
+                ..best
+            },
+            total,
+            floor,
         }
     }
 }

@@ -1,14 +1,16 @@
 ghost use Rattle.std.specs.Prelude.{ℕ, List, IfOk, ◌<◌, length};
 ghost use Rattle.convoy_plans.specs.Placements.{IsPlacement};
-ghost use Rattle.convoy_best_plan.specs.BestPlans.{IsChoice, IsPlanned, reach_of};
-ghost use Rattle.convoy_best_plan.specs.Floors.{IsNoHigher};
+ghost use Rattle.convoy_best_plan.specs.BestPlans.{IsBestPlan, IsNotBelow, IsPlanned};
 ghost use Rattle.convoy_best_plan.specs.Standings.{IsFound, IsPassed, IsStanding};
 
 use super::judging::choice_of;
 use super::planned::Planned;
 use super::searching::search_below;
 use super::standing::Standing;
-use convoy_best_order::{Wanted, best_order, targets_of};
+use super::starting::start;
+use super::targets::targets_by;
+use convoy_best_order::best_order_laws::{best_order_keeps, no_order_is_better};
+use convoy_best_order::{Wanted, best_order};
 use convoy_branch::Options;
 use convoy_commands::Watch;
 use convoy_plans::Plan;
@@ -36,8 +38,9 @@ pub fn best_plan<R: Threads + Wait + Sync, W: Watch + Sync>(
         chosen: None,
         served: Vec::new(alloc),
     };
+    let started = start(rt, alloc, plan, wanted, standing, options, watches)?;
     let standing = search_below(
-        rt, alloc, plan, wanted, groups, &sites, standing, options, watches,
+        rt, alloc, plan, wanted, groups, &sites, started, options, watches,
     )?;
     settled_if(rt, alloc, plan, wanted, standing.chosen, options, watches)
 }
@@ -54,7 +57,7 @@ fn settled_if<R: Threads + Wait + Sync, W: Watch + Sync>(
     watches: &[W],
 ) -> Result<Option<Planned>, AllocError>
     requires watched { 0 < length watches.now }
-    requires standing { IsStanding wanted plan.now chosen }
+    requires standing { IsStanding options.now wanted plan.now chosen }
     requires passed { (placement : List ℕ) → IsPlacement plan.now placement → IsPassed wanted plan.now chosen placement }
     ensures { IfOk result (IsPlanned options.now wanted plan.now) }
 {
@@ -75,17 +78,18 @@ fn settled<R: Threads + Wait + Sync, W: Watch + Sync>(
     watches: &[W],
 ) -> Result<Planned, AllocError>
     requires watched { 0 < length watches.now }
-    requires found { IsFound wanted plan.now planned }
-    ensures choice { IfOk result (IsChoice options.now wanted plan.now) }
-    ensures floor { IfOk result (λ settled. IsNoHigher settled.floor (reach_of settled)) }
-    ensures lower { IfOk result (λ settled. IsNoHigher settled.floor planned.floor) }
+    requires found { IsFound options.now wanted plan.now planned }
+    requires passed { (placement : List ℕ) → IsPlacement plan.now placement → IsNotBelow wanted plan.now planned.floor placement }
+    ensures { IfOk result (IsBestPlan options.now wanted plan.now) }
 {
+    no_order_is_better();
+    best_order_keeps();
     let (placement, scenario) = (planned.placement, planned.scenario);
     // A scenario is well formed.
     let _count = scenario.group_count();
-    let targets = targets_of(alloc, wanted, plan.deadlines(), &scenario)?;
+    let targets = targets_by(alloc, plan, wanted, &scenario)?;
     let best = best_order(rt, alloc, &scenario, &targets, options, watches)?;
-    let found = choice_of(plan, wanted, placement, scenario, targets, best);
+    let found = choice_of(placement, scenario, targets, best);
     let floor = planned.floor.lower(found.floor);
     Ok(Planned { floor, ..found })
 }

@@ -1,6 +1,6 @@
 //! The search over placements, one group after the other.
 
-ghost use Rattle.std.specs.Prelude.{◌≡◌, ◌<◌, ◌≤◌, ◌∷◌, ℕ, List, length, slice_get, slice_set, map, Some, None, IfOk, IfSome, IfNone};
+ghost use Rattle.std.specs.Prelude.{◌≡◌, ◌<◌, ◌≤◌, ◌∷◌, ℕ, List, length, slice_get, slice_set, map, Some, None, IfOk, IfSome, IfNone, IsTrue};
 ghost use Rattle.convoy_plans.specs.Placements.{IsPlacement};
 ghost use Rattle.convoy_best_plan.specs.Standings.{ArePassed, HasFallen, IsStanding, left_of};
 
@@ -10,7 +10,7 @@ use super::visiting::visit;
 use convoy_best_order::Wanted;
 use convoy_branch::Options;
 use convoy_commands::Watch;
-use convoy_plans::{Plan, is_placement};
+use convoy_plans::{Origin, Plan, is_placement};
 use std::alloc::{AllocError, Global};
 use std::sync::Wait;
 use std::thread::Threads;
@@ -31,8 +31,8 @@ pub(crate) fn search_below<R: Threads + Wait + Sync, W: Watch + Sync>(
     requires watched { 0 < length watches.now }
     requires long { length sites.now ≡ length plan.now.written.groups }
     requires left { left_of sites.now ≤ left }
-    requires standing { IsStanding wanted plan.now standing.chosen }
-    ensures standing { IfOk result (λ next. IsStanding wanted plan.now next.chosen) }
+    requires standing { IsStanding options.now wanted plan.now standing.chosen }
+    ensures standing { IfOk result (λ next. IsStanding options.now wanted plan.now next.chosen) }
     ensures fallen { IfOk result (λ next. HasFallen standing.chosen next.chosen) }
     ensures passed { IfOk result (λ next. ArePassed wanted plan.now next.chosen sites.now) }
 {
@@ -40,7 +40,7 @@ pub(crate) fn search_below<R: Threads + Wait + Sync, W: Watch + Sync>(
     if cut {
         return Ok(standing);
     }
-    let group = match next_group(sites) {
+    let group = match next_group(plan, sites) {
         Some(group) => group,
         None => return visit_placed(rt, alloc, plan, wanted, sites, standing, options, watches),
     };
@@ -64,8 +64,48 @@ pub(crate) fn search_below<R: Threads + Wait + Sync, W: Watch + Sync>(
     Ok(standing)
 }
 
+/// The group that gets a site next: one on which a message with a deadline rests, if there is such, since its commits can show
+/// soonest that no such placement is better.
+pub(crate) fn next_group(plan: &Plan, sites: &[Option<usize>]) -> Option<usize>
+    ensures some { IfSome result (λ group. slice_get sites.now group ≡ Some None) }
+    ensures none { IfNone result (left_of sites.now ≡ 0) }
+{
+    for message in 0..plan.message_count() {
+        if let Some(group) = next_of_message(plan, sites, message) {
+            return Some(group);
+        }
+    }
+    first_group(sites)
+}
+
+/// The first group that has no site yet, of those that the message goes to if it has a deadline, and its sender.
+fn next_of_message(plan: &Plan, sites: &[Option<usize>], message: usize) -> Option<usize>
+    ensures { IfSome result (λ group. slice_get sites.now group ≡ Some None) }
+{
+    plan.deadline(message)?;
+    for group in plan.destinations(message) {
+        if is_left(sites, *group) {
+            return Some(*group);
+        }
+    }
+    match plan.origin(message) {
+        Origin::Group(group) if is_left(sites, group) => Some(group),
+        _ => None,
+    }
+}
+
+/// Whether the group has no site yet.
+fn is_left(sites: &[Option<usize>], group: usize) -> bool
+    ensures { IsTrue result → slice_get sites.now group ≡ Some None }
+{
+    match sites.get(group) {
+        Some(site) => site.is_none(),
+        None => false,
+    }
+}
+
 /// The first group that has no site yet.
-fn next_group(sites: &[Option<usize>]) -> Option<usize>
+fn first_group(sites: &[Option<usize>]) -> Option<usize>
     ensures some { IfSome result (λ group. slice_get sites.now group ≡ Some None) }
     ensures none { IfNone result (left_of sites.now ≡ 0) }
 {
@@ -106,8 +146,8 @@ fn visit_placed<R: Threads + Wait + Sync, W: Watch + Sync>(
     requires watched { 0 < length watches.now }
     requires long { length sites.now ≡ length plan.now.written.groups }
     requires all { left_of sites.now ≡ 0 }
-    requires standing { IsStanding wanted plan.now standing.chosen }
-    ensures standing { IfOk result (λ next. IsStanding wanted plan.now next.chosen) }
+    requires standing { IsStanding options.now wanted plan.now standing.chosen }
+    ensures standing { IfOk result (λ next. IsStanding options.now wanted plan.now next.chosen) }
     ensures fallen { IfOk result (λ next. HasFallen standing.chosen next.chosen) }
     ensures passed { IfOk result (λ next. ArePassed wanted plan.now next.chosen sites.now) }
 {

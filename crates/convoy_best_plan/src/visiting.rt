@@ -9,8 +9,10 @@ ghost use Rattle.convoy_best_plan.specs.Standings.{HasFallen, IsOutdone, IsPasse
 use super::excluding::is_exceeded;
 use super::judging::{best_found, choice_of};
 use super::standing::Standing;
+use super::targets::targets_by;
 use super::totals::total_of;
-use convoy_best_order::{Target, Wanted, targets_of};
+use convoy_best_order::best_order_laws::no_order_is_better;
+use convoy_best_order::{Target, Wanted};
 use convoy_branch::Options;
 use convoy_commands::Watch;
 use convoy_plans::{Plan, scenario_at};
@@ -33,8 +35,8 @@ pub(crate) fn visit<R: Threads + Wait + Sync, W: Watch + Sync>(
 ) -> Result<Standing, AllocError>
     requires watched { 0 < length watches.now }
     requires placement { IsPlacement plan.now placement.items }
-    requires standing { IsStanding wanted plan.now standing.chosen }
-    ensures standing { IfOk result (λ next. IsStanding wanted plan.now next.chosen) }
+    requires standing { IsStanding options.now wanted plan.now standing.chosen }
+    ensures standing { IfOk result (λ next. IsStanding options.now wanted plan.now next.chosen) }
     ensures fallen { IfOk result (λ next. HasFallen standing.chosen next.chosen) }
     ensures passed { IfOk result (λ next. IsPassed wanted plan.now next.chosen placement.items) }
 {
@@ -47,7 +49,7 @@ pub(crate) fn visit<R: Threads + Wait + Sync, W: Watch + Sync>(
 }
 
 /// The scenario of a placement, if there is one. Fails where memory runs out, and else never.
-fn scenario_if_made(
+pub(crate) fn scenario_if_made(
     alloc: Global,
     plan: &Plan,
     placement: &[usize],
@@ -77,27 +79,28 @@ fn visit_scenario<R: Threads + Wait + Sync, W: Watch + Sync>(
     requires watched { 0 < length watches.now }
     requires placement { IsPlacement plan.now placement.items }
     requires made { scenario_at plan.now placement.items ≡ Ok scenario }
-    requires standing { IsStanding wanted plan.now standing.chosen }
-    ensures standing { IfOk result (λ next. IsStanding wanted plan.now next.chosen) }
+    requires standing { IsStanding options.now wanted plan.now standing.chosen }
+    ensures standing { IfOk result (λ next. IsStanding options.now wanted plan.now next.chosen) }
     ensures fallen { IfOk result (λ next. HasFallen standing.chosen next.chosen) }
     ensures passed { IfOk result (λ next. IsPassed wanted plan.now next.chosen placement.items) }
 {
+    no_order_is_better();
     // A scenario is well formed.
     let _count = scenario.group_count();
-    let targets = targets_of(alloc, wanted, plan.deadlines(), &scenario)?;
+    let targets = targets_by(alloc, plan, wanted, &scenario)?;
     let mut standing = standing;
-    let outdone = is_outdone(alloc, &scenario, &targets, &mut standing)?;
+    let outdone = is_past_here(alloc, &scenario, &targets, &mut standing)?;
     if outdone {
         return Ok(standing);
     }
     let best = best_found(rt, alloc, &scenario, &targets, options, watches)?;
-    let found = choice_of(plan, wanted, placement, scenario, targets, best);
+    let found = choice_of(placement, scenario, targets, best);
     Ok(standing.with(found))
 }
 
-/// Whether no order of the groups of a scenario is surely better than the best choice so far. Fails where memory runs
-/// out, and else never.
-fn is_outdone(
+/// Whether surely no order of the groups of a scenario is better than the best choice so far, by a schedule of one of its
+/// targets. Fails where memory runs out, and else never.
+fn is_past_here(
     alloc: Global,
     scenario: &Scenario,
     targets: &[Target],

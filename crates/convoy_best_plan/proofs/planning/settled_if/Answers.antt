@@ -1,17 +1,14 @@
 use Rattle.std.proofs.Common.{Option, subst}
 use Rattle.convoy_best_plan.specs.declared.planned.Planned.{Planned}
 use Rattle.convoy_best_plan.specs.Standings.{IsPassed, IsStanding}
-use Rattle.convoy_best_plan.proofs.Found.{planned_all}
 use Rattle.convoy_best_plan.proofs.planning.settled_if.Goals as goal
 
 pub returns-in-None : goal.returns-in-None
 returns-in-None g c = λ placement is. subst (λ (chosen : Option Planned). IsPassed c.args.wanted c.args.plan.now chosen placement) c.in-None.is (c.requires.passed placement is)
 
 pub settled-requires-clause-found : goal.settled-requires-clause-found
-settled-requires-clause-found g c κs within = subst (IsStanding c.args.wanted c.args.plan.now) c.in-Some.is c.requires.standing
+settled-requires-clause-found g c κs within = subst (IsStanding c.args.options.now c.args.wanted c.args.plan.now) c.in-Some.is c.requires.standing
 
-pub returns-in_ok-settled-in-Some : goal.returns-in_ok-settled-in-Some
-returns-in_ok-settled-in-Some g c =
-    planned_all c.args.wanted c.args.plan.now c.in-Some.planned c.in_ok-settled-in-Some.field-0 c.args.options.now c.in_ok-settled-in-Some.ensures.choice c.in_ok-settled-in-Some.ensures.floor
-    c.in_ok-settled-in-Some.ensures.lower
-    (λ placement is. subst (λ (chosen : Option Planned). IsPassed c.args.wanted c.args.plan.now chosen placement) c.in-Some.is (c.requires.passed placement is))
+pub settled-requires-clause-passed : goal.settled-requires-clause-passed
+settled-requires-clause-passed g c κs within = λ placement is.
+    subst (λ (chosen : Option Planned). IsPassed c.args.wanted c.args.plan.now chosen placement) c.in-Some.is (c.requires.passed placement is)

@@ -1,57 +1,64 @@
-use Rattle.std.proofs.Common.{◌≡◌, ℕ, List, Option, Some, sym, ap, subst, ◌∙◌}
+use Rattle.std.proofs.Common.{◌≡◌, ℕ, List, Option, Some, sym, subst}
 use Rattle.convoy_plans.specs.Plans.{Plan}
+use Rattle.convoy_branch.specs.Options.{Settings}
 use Rattle.convoy_best_order.specs.declared.wanted.Wanted.{Wanted}
 use Rattle.convoy_best_order.specs.declared.target.Target.{Target}
-use Rattle.convoy_best_order.specs.Targets.{targets_of}
 use Rattle.convoy_best_plan.specs.declared.planned.Planned.{Planned}
-use Rattle.convoy_best_plan.specs.BestPlans.{IsNotBelow, targets_by}
-use Rattle.convoy_best_plan.specs.Standings.{HasFallen, IsBestBySome, IsFound, IsOutdone, IsPassed, IsStanding, better}
-use Rattle.convoy_best_plan.proofs.Found.{better_fallen, better_found, better_passed, fallen_self, found_of, outdone_passed}
+use Rattle.convoy_best_plan.specs.BestPlans.{IsNotBelow}
+use Rattle.convoy_best_plan.specs.Standings.{HasFallen, IsBestBySome, IsFound, IsOpenByThese, IsOutdone, IsPassed, IsStanding, better}
+use Rattle.convoy_best_plan.proofs.Choices.{choice_found, choice_here}
+use Rattle.convoy_best_plan.proofs.Found.{better_fallen, better_found, better_passed, fallen_self, outdone_passed}
 use Rattle.convoy_best_plan.proofs.visiting.visit_scenario.Goals as goal
 
 -- how the search stands after a placement
-record After (wanted : Wanted) (plan : Plan) (old new : Option Planned) (placement : List ℕ) : Type 0 where
-  standing : IsStanding wanted plan new
+record After (settings : Settings) (wanted : Wanted) (plan : Plan) (old new : Option Planned) (placement : List ℕ) : Type 0 where
+  standing : IsStanding settings wanted plan new
   fallen : HasFallen old new
   passed : IsPassed wanted plan new placement
 
 -- where the choice stays
-kept : (wanted : Wanted) (plan : Plan) (old new : Option Planned) (placement : List ℕ) → new ≡ old → IsStanding wanted plan old → IsPassed wanted plan old placement
-    → After wanted plan old new placement
-kept wanted plan old new placement same is passed =
-    subst (λ (next : Option Planned). After wanted plan old next placement) (sym same) (record { standing = is; fallen = fallen_self old; passed = passed })
+kept : (settings : Settings) (wanted : Wanted) (plan : Plan) (old new : Option Planned) (placement : List ℕ) → new ≡ old → IsStanding settings wanted plan old
+    → IsPassed wanted plan old placement → After settings wanted plan old new placement
+kept settings wanted plan old new placement same is passed =
+    subst (λ (next : Option Planned). After settings wanted plan old next placement) (sym same) (record { standing = is; fallen = fallen_self old; passed = passed })
 
 -- where there is one choice more
-added : (wanted : Wanted) (plan : Plan) (old mid new : Option Planned) (found : Planned) (placement : List ℕ) → mid ≡ old → new ≡ Some (better mid found)
-    → IsStanding wanted plan old → IsFound wanted plan found → IsNotBelow wanted plan found.floor placement → After wanted plan old new placement
-added wanted plan old mid new found placement same gives is choice here =
-    subst (λ (next : Option Planned). After wanted plan old next placement)
-    (sym (subst (λ (m : Option Planned). new ≡ Some (better m found)) same gives))
+added : (settings : Settings) (wanted : Wanted) (plan : Plan) (old mid new : Option Planned) (found choice : Planned) (placement : List ℕ) → mid ≡ old
+    → new ≡ Some (better mid found) → found ≡ choice → IsStanding settings wanted plan old → IsFound settings wanted plan choice
+    → IsNotBelow wanted plan choice.floor placement → After settings wanted plan old new placement
+added settings wanted plan old mid new found choice placement same gives as_is is new_one here =
+    let next : new ≡ Some (better old choice) = subst (λ (p : Planned). new ≡ Some (better old p)) as_is (subst (λ (m : Option Planned). new ≡ Some (better m found)) same gives) in
+    subst (λ (o : Option Planned). After settings wanted plan old o placement) (sym next)
     (record {
-      standing = better_found wanted plan old found is choice;
-      fallen = better_fallen wanted plan old found is choice;
-      passed = better_passed wanted plan old found placement is choice here;
+      standing = better_found settings wanted plan old choice is new_one;
+      fallen = better_fallen settings wanted plan old choice is new_one;
+      passed = better_passed settings wanted plan old choice placement is new_one here;
     })
 
 pub returns-then-outdone : goal.returns-then-outdone
 returns-then-outdone g c =
-    let of_plan : c.in_ok-targets.targets.items ≡ targets_by c.args.wanted c.args.plan.now c.args.scenario =
-    c.in_ok-targets.ensures.value ∙ ap (λ (deadlines : List (Option ℕ)). targets_of c.args.wanted deadlines c.args.scenario) c.deadlines.ensures in
     let outdone : IsOutdone c.args.standing.chosen c.args.scenario c.in_ok-targets.targets.items =
     subst (IsOutdone c.args.standing.chosen c.args.scenario) c.deref.ensures.value (c.in_ok-outdone.ensures.outdone c.if-outdone.true) in
     let after =
-    kept c.args.wanted c.args.plan.now c.args.standing.chosen c.is_outdone.new.standing.chosen c.args.placement.items c.in_ok-outdone.ensures.chosen c.requires.standing
-    (outdone_passed c.args.wanted c.args.plan.now c.args.standing.chosen c.args.placement.items c.args.scenario c.in_ok-targets.targets.items c.requires.standing c.requires.made
-    of_plan outdone) in
+    kept c.args.options.now c.args.wanted c.args.plan.now c.args.standing.chosen c.is_past_here.new.standing.chosen c.args.placement.items c.in_ok-outdone.ensures.chosen
+    c.requires.standing
+    (outdone_passed c.args.options.now c.args.wanted c.args.plan.now c.args.standing.chosen c.args.placement.items c.args.scenario c.in_ok-targets.targets.items
+    c.requires.standing c.requires.made c.in_ok-targets.ensures.value outdone) in
     record { standing = after.standing; fallen = after.fallen; passed = after.passed }
 
 pub returns : goal.returns
 returns g c =
+    let best : IsBestBySome c.args.scenario c.in_ok-targets.targets.items c.in_ok-best.best =
+    subst (λ (targets : List Target). IsBestBySome c.args.scenario targets c.in_ok-best.best) c.deref-2.ensures.value c.in_ok-best.ensures.best in
+    let open_by : IsOpenByThese c.args.options.now c.args.scenario c.in_ok-targets.targets.items c.in_ok-best.best =
+    subst (λ (targets : List Target). IsOpenByThese c.args.options.now c.args.scenario targets c.in_ok-best.best) c.deref-2.ensures.value c.in_ok-best.ensures.is_open in
     let found =
-    found_of c.args.wanted c.args.plan.now c.choice_of-found.result c.args.scenario c.in_ok-targets.targets.items c.in_ok-best.best
-    (subst (λ (targets : List Target). IsBestBySome c.args.scenario targets c.in_ok-best.best) c.deref-2.ensures.value c.in_ok-best.ensures) c.choice_of-found.ensures.choice
-    c.choice_of-found.ensures.floor in
+    choice_found c.args.wanted c.args.plan.now c.args.placement c.args.scenario c.in_ok-targets.targets c.in_ok-best.best c.requires.placement c.requires.made
+    c.in_ok-targets.ensures.value c.in_ok-targets.ensures.lawful c.args.options.now best open_by in
+    let here =
+    choice_here c.args.wanted c.args.plan.now c.args.placement c.args.scenario c.in_ok-targets.targets c.in_ok-best.best c.requires.placement c.requires.made
+    c.in_ok-targets.ensures.value c.in_ok-targets.ensures.lawful c.no_order_is_better.ensures c.group_count-count.ensures.lawful best in
     let after =
-    added c.args.wanted c.args.plan.now c.args.standing.chosen c.is_outdone.new.standing.chosen c.with.result.chosen c.choice_of-found.result c.args.placement.items
-    c.in_ok-outdone.ensures.chosen c.with.ensures c.requires.standing found c.choice_of-found.ensures.here in
+    added c.args.options.now c.args.wanted c.args.plan.now c.args.standing.chosen c.is_past_here.new.standing.chosen c.with.result.chosen c.choice_of-found.result _
+    c.args.placement.items c.in_ok-outdone.ensures.chosen c.with.ensures c.choice_of-found.ensures c.requires.standing found here in
     record { standing = after.standing; fallen = after.fallen; passed = after.passed }
