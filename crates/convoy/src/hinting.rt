@@ -17,9 +17,11 @@ use convoy_hints::{
     hint_for_given_order, hint_for_given_schedule, hint_for_greatest, hint_for_jobs,
     hint_for_late_certificate, hint_for_late_message, hint_for_leads, hint_for_length,
     hint_for_limit, hint_for_named_group, hint_for_order, hint_for_order_in_ticks,
-    hint_for_plain_number, hint_for_reading, hint_for_scenario, hint_for_seconds, hint_for_tickets,
-    hint_for_unchecked, hint_for_writing, hint_of_text, is_name_of_file, line_for_file,
+    hint_for_plain_number, hint_for_plan, hint_for_reading, hint_for_scenario, hint_for_seconds,
+    hint_for_tickets, hint_for_unchecked, hint_for_writing, hint_of_text, is_name_of_file,
+    line_for_file,
 };
+use convoy_plans::PlanFault;
 use convoy_streams::KeptReader;
 use convoy_tasks::{MOST_JOBS, Task};
 use convoy_toml::Asked;
@@ -98,6 +100,7 @@ fn text_of(task: &Task) -> &'static str {
         | Task::Listing { .. }
         | Task::Sweep { .. }
         | Task::Curve { .. } => "a scenario",
+        Task::Plan { .. } | Task::Placing { .. } => "a plan",
         Task::Ranges { .. } => "a table of round trips",
         Task::Check { .. } | Task::Explain { .. } | Task::Draw { .. } => "a certificate",
         Task::Tell(_) => "a scenario or a certificate",
@@ -197,6 +200,17 @@ fn hint_for_fault<R, W>(alloc: Global, run: &Finished<'_, R, W>, fault: &Fault) 
         run.reader
     };
     match fault {
+        Fault::Plan(fault) if reader.is_whole() => {
+            hint_for_plan_of(alloc, run.verdict, reader.text(), *fault)
+        }
+        Fault::Scenario(fault) if reader.is_whole() && reads_plan(run.verdict) => {
+            hint_for_plan_of(
+                alloc,
+                run.verdict,
+                reader.text(),
+                PlanFault::Scenario(*fault),
+            )
+        }
         Fault::Scenario(fault) if reader.is_whole() => {
             let asked = asked_of_input(run);
             hint_for_scenario_or_group(alloc, run.verdict, reader.text(), asked, *fault)
@@ -223,10 +237,27 @@ fn hint_for_fault<R, W>(alloc: Global, run: &Finished<'_, R, W>, fault: &Fault) 
         Fault::Sweep(cause) => Ok(Some(hint_for_sweep(alloc, *cause)?)),
         Fault::Ranges(cause) => hint_for_table(alloc, *cause),
         Fault::Scenario(_)
+        | Fault::Plan(_)
         | Fault::Schedule(_)
         | Fault::Order(_)
         | Fault::Reading(ReadFault::TooManyReads | ReadFault::Memory)
         | Fault::Memory => Ok(None),
+    }
+}
+
+/// Whether the command line asks for what a plan is read for.
+fn reads_plan(verdict: &Verdict) -> bool {
+    matches!(
+        task_of(verdict),
+        Some(Task::Plan { .. } | Task::Placing { .. })
+    )
+}
+
+/// The hint for a fault of a plan, or of what a plan has as a scenario has it.
+fn hint_for_plan_of(alloc: Global, verdict: &Verdict, text: &[u8], fault: PlanFault) -> Hint {
+    match asked_of(verdict) {
+        Some(asked) => hint_for_plan(alloc, text, asked, fault),
+        None => Ok(None),
     }
 }
 
@@ -261,6 +292,8 @@ fn asked_of_task(task: &Task) -> Option<&Asked> {
         | Task::Budget { asked, .. }
         | Task::Order { asked, .. }
         | Task::Listing { asked, .. }
+        | Task::Plan { asked, .. }
+        | Task::Placing { asked, .. }
         | Task::Sweep { asked, .. }
         | Task::Curve { asked, .. }
         | Task::BatchTable { asked, .. } => Some(asked),
@@ -393,6 +426,8 @@ fn options_of(verdict: &Verdict) -> Option<&Options> {
         | Task::Budget { options, .. }
         | Task::Order { options, .. }
         | Task::Listing { options, .. }
+        | Task::Plan { options, .. }
+        | Task::Placing { options, .. }
         | Task::Sweep { options, .. }
         | Task::Curve { options, .. } => Some(options),
         _ => None,
@@ -497,7 +532,10 @@ fn hint_for_kind_of_answer(alloc: Global, verdict: &Verdict, end: &End) -> Hint 
         ) => hint_for_late_certificate(alloc).map(Some),
         (
             Verdict::Ask {
-                task: Task::Order { .. } | Task::Listing { .. },
+                task: Task::Order { .. }
+                | Task::Listing { .. }
+                | Task::Plan { .. }
+                | Task::Placing { .. },
                 ..
             },
             _,

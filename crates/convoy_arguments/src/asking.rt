@@ -60,7 +60,7 @@ fn target_of(alloc: Global, name: &str, given: &ArgMatches<'_>) -> Result<Target
 fn asks_for_several(name: &str, given: &ArgMatches<'_>) -> bool {
     match name {
         "survey" => !given.get_flag("without"),
-        "budget" | "order" => given.get_flag("all"),
+        "budget" | "order" | "plan" => given.get_flag("all"),
         "ceiling" => given.get_flag("all") || given.get_str("group").is_some(),
         _ => false,
     }

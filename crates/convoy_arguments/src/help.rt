@@ -38,8 +38,9 @@ Each command reads one text, and `check --scenario` a scenario besides: the file
 that is named after it, or standard input where none is, or where its name is `-`.
 That is a scenario, as TOML. The commands `check`, `explain` and `draw` read a
 certificate, which `analyse` writes; `simulate`, `timeline`, `packets` and
-`scenario` read either. The answer goes to standard output. Without a command word
-the command is `first`, and reads standard input.";
+`scenario` read either; `plan` reads a plan, as TOML, and `ranges` a table, as CSV.
+The answer goes to standard output. Without a command word the command is `first`,
+and reads standard input.";
 
 pub(crate) const AFTER: &str = "\
 Example of a scenario:
@@ -398,6 +399,44 @@ target";
 pub(crate) const ABOUT_WHY: &str = "\
 Tells below the table why no order is better: a row for each of some groups, with an
 order in which those of them that stand behind it do no more harm than in any other";
+
+pub(crate) const ABOUT_PLAN: &str = "Tells at which sites the groups are best placed";
+
+pub(crate) const LONG_ABOUT_PLAN: &str = "\
+Reads a plan, and tells at which of its sites each group is best placed, and in which
+order the groups are best listed there. A plan is a text as that of a scenario, whose
+links lead from site to site and whose messages are sent from sites or by groups. It
+names the `sites`, says in a table [[group]] at which of them each group may be, and in
+`apart` which groups share none:
+  convoy plan plan.toml
+  sites orders@ireland stock@virginia
+  order orders stock
+The first line tells where each group is, the second how the groups are listed, and
+below them stands the table of `order` for the scenario of that placement. The best
+choice is that in which the greatest latency of the messages that have deadlines, less
+these, is the least, or where none has one that of the target: in the row `*` no
+placement and no order has a greatest latency below LEAST. As `csv` and `json` the
+column SITES tells where each group is. Where nothing is apart, and what stays at a site
+is fast, all groups at one site are often the best choice. `--limit` and `--seconds` hold
+for each search by itself, of which there may be thousands.
+
+The exit status is 5 where a deadline is missed in the best choice, else 3 where it is
+not known whether one is kept, or where there is none whether the choice is the best, or
+a search did not end in it.";
+
+pub(crate) const ABOUT_PLACED_TARGETS: &str = "\
+Finds the best placement and order for each message at each group that it goes to;
+where some have a deadline it is the best for these, and tells no others; the text need
+not have a target";
+
+pub(crate) const ABOUT_WHY_THERE: &str = "\
+Tells below the table why no order is better at that placement: a row for each of some
+groups, with an order in which those of them that stand behind it do no more harm than
+in any other";
+
+pub(crate) const ABOUT_PLACING: &str = "\
+Writes in place of the table the scenario of the best placement, with its groups in the
+best order, as `scenario` writes one: in ticks, and without deadlines";
 
 pub(crate) const ABOUT_RANGES: &str = "Writes links for a table of round trips";
 

@@ -276,6 +276,7 @@ fn task_for(
         }),
         "budget" => Ok(budget_for(given, asked)),
         "order" => Ok(order_for(given, asked)),
+        "plan" => Ok(plan_for(given, asked)),
         "batch" | "survey" => Ok(table_for(name, given, asked)),
         _ => Ok(Task::First { asked }),
     }
@@ -355,7 +356,26 @@ fn order_for(given: &ArgMatches<'_>, asked: Asked) -> Task {
     }
 }
 
-/// For which targets an order is to be the best.
+/// What `plan` asks for: the scenario of the best placement with its groups in the best order, or a table.
+fn plan_for(given: &ArgMatches<'_>, asked: Asked) -> Task {
+    let wanted = wanted_of(given);
+    if given.get_flag("scenario") {
+        return Task::Placing {
+            wanted,
+            asked,
+            options: options_of(given),
+        };
+    }
+    Task::Plan {
+        format: format_of(given),
+        wanted,
+        with_reasons: given.get_flag("why"),
+        asked,
+        options: options_of(given),
+    }
+}
+
+/// For which targets an order, or a placement with an order, is to be the best.
 fn wanted_of(given: &ArgMatches<'_>) -> Wanted {
     if given.get_flag("all") {
         Wanted::All

@@ -50,11 +50,9 @@ const PROGRESS: &str = "'--progress' tells how far a search has come";
 const QUIET: &str = "'--quiet' leaves hints out";
 
 /// Keys of a scenario, which stand there and in no command line.
-const KEYS: [&str; 15] = [
+const KEYS: [&str; 13] = [
     "time",
-    "tick",
     "delay",
-    "least",
     "most",
     "both",
     "groups",

@@ -6,15 +6,15 @@ use super::help::{
     ABOUT_BOUNDS, ABOUT_BUDGET, ABOUT_CEILING, ABOUT_CEILINGS_JOBS, ABOUT_CHECK, ABOUT_DRAW,
     ABOUT_ENVELOPE, ABOUT_EXPLAIN, ABOUT_FIRST, ABOUT_FORMAT, ABOUT_GROUP, ABOUT_JOBS,
     ABOUT_LATENCY, ABOUT_LEAST, ABOUT_LIMIT, ABOUT_LISTING, ABOUT_MARGIN, ABOUT_OF_CEILING,
-    ABOUT_ORDER, ABOUT_PACKETS, ABOUT_PROGRESS, ABOUT_RANGES, ABOUT_REPORT, ABOUT_SCENARIO,
-    ABOUT_SECONDS, ABOUT_SEEK, ABOUT_SEEK_TRAFFIC, ABOUT_SET, ABOUT_SIMULATE, ABOUT_SPEED,
-    ABOUT_STATUS, ABOUT_STEPS, ABOUT_SURVEY, ABOUT_SWEEP, ABOUT_SWEEP_FORMAT, ABOUT_TARGET,
-    ABOUT_TELL, ABOUT_TICK, ABOUT_TIMELINE, ABOUT_UNIT, ABOUT_WANTED, ABOUT_WHY, ABOUT_WITHOUT,
-    ABOUT_WORKERS, LONG_ABOUT_ANALYSE, LONG_ABOUT_BATCH, LONG_ABOUT_BUDGET, LONG_ABOUT_CEILING,
-    LONG_ABOUT_CHECK, LONG_ABOUT_DRAW, LONG_ABOUT_EXPLAIN, LONG_ABOUT_FIRST, LONG_ABOUT_LATENCY,
-    LONG_ABOUT_ORDER, LONG_ABOUT_PACKETS, LONG_ABOUT_RANGES, LONG_ABOUT_REPORT,
-    LONG_ABOUT_SCENARIO, LONG_ABOUT_SIMULATE, LONG_ABOUT_SURVEY, LONG_ABOUT_SWEEP,
-    LONG_ABOUT_TIMELINE,
+    ABOUT_ORDER, ABOUT_PACKETS, ABOUT_PLACED_TARGETS, ABOUT_PLACING, ABOUT_PLAN, ABOUT_PROGRESS,
+    ABOUT_RANGES, ABOUT_REPORT, ABOUT_SCENARIO, ABOUT_SECONDS, ABOUT_SEEK, ABOUT_SEEK_TRAFFIC,
+    ABOUT_SET, ABOUT_SIMULATE, ABOUT_SPEED, ABOUT_STATUS, ABOUT_STEPS, ABOUT_SURVEY, ABOUT_SWEEP,
+    ABOUT_SWEEP_FORMAT, ABOUT_TARGET, ABOUT_TELL, ABOUT_TICK, ABOUT_TIMELINE, ABOUT_UNIT,
+    ABOUT_WANTED, ABOUT_WHY, ABOUT_WHY_THERE, ABOUT_WITHOUT, ABOUT_WORKERS, LONG_ABOUT_ANALYSE,
+    LONG_ABOUT_BATCH, LONG_ABOUT_BUDGET, LONG_ABOUT_CEILING, LONG_ABOUT_CHECK, LONG_ABOUT_DRAW,
+    LONG_ABOUT_EXPLAIN, LONG_ABOUT_FIRST, LONG_ABOUT_LATENCY, LONG_ABOUT_ORDER, LONG_ABOUT_PACKETS,
+    LONG_ABOUT_PLAN, LONG_ABOUT_RANGES, LONG_ABOUT_REPORT, LONG_ABOUT_SCENARIO,
+    LONG_ABOUT_SIMULATE, LONG_ABOUT_SURVEY, LONG_ABOUT_SWEEP, LONG_ABOUT_TIMELINE,
 };
 use super::limits::MOST_SECONDS;
 use clap::builder::ValueParser;
@@ -345,7 +345,7 @@ const OF_CEILING: Setting = Setting {
     company: Company::Any,
 };
 
-/// The target of a budget or of an order, where one alone is asked for.
+/// The target of a budget, an order or a plan, where one alone is asked for.
 const BUDGET_TARGET: Setting = Setting {
     name: "target",
     about: ABOUT_TARGET,
@@ -381,6 +381,30 @@ const WHY: Setting = Setting {
 const LISTING: Setting = Setting {
     name: "scenario",
     about: ABOUT_LISTING,
+    value: Value::Absent,
+    company: Company::Without("format"),
+};
+
+/// Whether a placement and an order are to be the best for all messages.
+const PLACED_TARGETS: Setting = Setting {
+    name: "all",
+    about: ABOUT_PLACED_TARGETS,
+    value: Value::Absent,
+    company: Company::Any,
+};
+
+/// Whether the reasons are told why no order is better at the best placement.
+const WHY_THERE: Setting = Setting {
+    name: "why",
+    about: ABOUT_WHY_THERE,
+    value: Value::Absent,
+    company: Company::Without("scenario"),
+};
+
+/// Whether the scenario of the best placement is written, in place of a table.
+const PLACING: Setting = Setting {
+    name: "scenario",
+    about: ABOUT_PLACING,
     value: Value::Absent,
     company: Company::Without("format"),
 };
@@ -458,7 +482,7 @@ const TELL: Setting = Setting {
 };
 
 /// The commands.
-pub(crate) const COMMANDS: [Listed; 18] = [
+pub(crate) const COMMANDS: [Listed; 19] = [
     Listed {
         name: "analyse",
         about: ABOUT_ANALYSE,
@@ -561,6 +585,27 @@ pub(crate) const COMMANDS: [Listed; 18] = [
             ALL_TARGETS,
             WHY,
             LISTING,
+            LIMIT,
+            SECONDS,
+            SEEK,
+            BOUNDS,
+            WORKERS,
+            JOBS,
+            PROGRESS,
+            FORMAT,
+            UNIT,
+        ],
+    },
+    Listed {
+        name: "plan",
+        about: ABOUT_PLAN,
+        long_about: LONG_ABOUT_PLAN,
+        settings: &[
+            BUDGET_TARGET,
+            AT_MOST,
+            PLACED_TARGETS,
+            WHY_THERE,
+            PLACING,
             LIMIT,
             SECONDS,
             SEEK,

@@ -6,39 +6,46 @@ use std::convert::AsStr;
 use std::fmt;
 
 /// The commands that write tables: `ceiling` where it is asked for several ceilings.
-const WITH_TABLES: [&str; 6] = ["survey", "batch", "ceiling", "budget", "order", "sweep"];
+const WITH_TABLES: [&str; 7] = [
+    "survey", "batch", "ceiling", "budget", "order", "plan", "sweep",
+];
 
 /// Options of a command or two, and these commands as they are told.
-const OF_SOME: [(&str, &str); 15] = [
-    ("all", "'ceiling', 'budget', 'order' and 'survey --without'"),
+const OF_SOME: [(&str, &str); 17] = [
+    (
+        "all",
+        "'ceiling', 'budget', 'order', 'plan' and 'survey --without'",
+    ),
     ("group", "'ceiling'"),
     ("ceiling", "'latency', 'explain', 'survey' and 'budget'"),
     ("without", "'survey'"),
-    ("scenario", "'check' and 'order'"),
+    ("scenario", "'check', 'order' and 'plan'"),
     ("tell", "'check'"),
-    ("why", "'order'"),
+    ("why", "'order' and 'plan'"),
     ("status", "'batch'"),
     ("margin", "'ranges'"),
     ("speed", "'ranges'"),
+    ("least", "'ranges', and a scenario has a key 'least'"),
+    ("tick", "'ranges', and a scenario has a key 'tick'"),
     (
         "at-most",
-        "'latency', 'analyse', 'survey', 'report', 'ceiling', 'budget', 'order', 'sweep' and 'batch'",
+        "'latency', 'analyse', 'survey', 'report', 'ceiling', 'budget', 'order', 'plan', 'sweep' and 'batch'",
     ),
     (
         "target",
-        "'first', 'latency', 'analyse', 'report', 'ceiling', 'budget', 'order', 'sweep' and 'survey --without'",
+        "'first', 'latency', 'analyse', 'report', 'ceiling', 'budget', 'order', 'plan', 'sweep' and 'survey --without'",
     ),
     (
         "unit",
-        "'latency', 'survey', 'report', 'ceiling', 'budget', 'order', 'sweep', 'batch', 'explain', 'draw' and 'check'",
+        "'latency', 'survey', 'report', 'ceiling', 'budget', 'order', 'plan', 'sweep', 'batch', 'explain', 'draw' and 'check'",
     ),
     (
         "jobs",
-        "'survey', 'report', 'budget', 'order', 'sweep', 'ceiling --all' and 'batch --format'",
+        "'survey', 'report', 'budget', 'order', 'plan', 'sweep', 'ceiling --all' and 'batch --format'",
     ),
     (
         "format",
-        "'survey', 'batch', 'ceiling', 'budget', 'order' and 'sweep'",
+        "'survey', 'batch', 'ceiling', 'budget', 'order', 'plan' and 'sweep'",
     ),
 ];
 
@@ -247,7 +254,7 @@ impl<'a> Sorted<'a> {
                 Some(("a file stands after a command", Some(file)))
             }
             (None, [_, rest @ ..]) if self.is_misformatted() => Some((
-                "'survey', 'budget', 'order', 'sweep', 'batch' and 'ceiling --all' write tables, in the format that '--format' names",
+                "'survey', 'budget', 'order', 'plan', 'sweep', 'batch' and 'ceiling --all' write tables, in the format that '--format' names",
                 rest.first().copied(),
             )),
             _ => None,

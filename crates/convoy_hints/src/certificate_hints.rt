@@ -6,7 +6,7 @@ use convoy_certificate::{TextFault, read};
 use convoy_checker::{Refusal, Refused};
 use convoy_hints_scenario::{
     hint_for_bytes, hint_for_damage, hint_for_order, hint_for_schedule, hint_for_sketch,
-    is_meant_as_certificate, is_meant_as_scenario, with_label,
+    is_meant_as_certificate, is_meant_as_scenario, is_text_of_plan, with_label,
 };
 use convoy_hints_sketch::{Hint, Quoted, noun};
 use convoy_packets::{Instance, ListFault, Order, Schedule};
@@ -70,6 +70,12 @@ fn hint_for_other_text(alloc: Global, text: &[u8]) -> Result<String, AllocError>
         return String::from_str(
             alloc,
             "the input is a fault of the command before, and no certificate",
+        );
+    }
+    if is_text_of_plan(alloc, text) {
+        return String::from_str(
+            alloc,
+            "the input is a plan, and a certificate is read here: convoy plan --scenario plan.toml | convoy analyse | convoy check",
         );
     }
     if is_meant_as_scenario(alloc, text) {

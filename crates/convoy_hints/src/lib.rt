@@ -5,6 +5,7 @@
 
 pub use certificate_hints::{hint_for_certificate, hint_for_unchecked};
 pub use checked_texts::{CheckedText, hint_of_text};
+pub use convoy_hints_plan::hint_for_plan;
 pub use convoy_hints_scenario::{
     hint_for_file_as_group, hint_for_given_order, hint_for_given_schedule, hint_for_named_group,
     hint_for_order_in_ticks, hint_for_plain_number, hint_for_scenario, is_name_of_file,

@@ -1,5 +1,5 @@
 use convoy_certificate::{Form, form_of};
-use convoy_hints_sketch::{Part, Sketch};
+use convoy_hints_sketch::{Part, Sketch, TextKind};
 use convoy_lines::LineReader;
 use convoy_scenario::{
     DraftLink, DraftMulticast, DraftScenario, Duration, Name, Scenario, Time, TimeUnit,
@@ -107,6 +107,7 @@ fn add_line<'a>(
 fn part_at<'a>(table: ScenarioTable, name: Option<&'a str>, line: usize) -> Part<'a> {
     Part {
         table,
+        kind: TextKind::Scenario,
         name,
         line: Some(line),
     }

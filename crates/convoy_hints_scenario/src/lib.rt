@@ -5,10 +5,15 @@
 #![tactic(auto)]
 
 pub use damage::{hint_for_bytes, hint_for_damage};
-pub use inputs::{is_meant_as_certificate, is_meant_as_scenario};
+pub use inputs::{
+    is_meant_as_certificate, is_meant_as_plan, is_meant_as_scenario, is_text_of_plan,
+};
+pub use names::hint_for_bad_place;
+pub use references::hint_for_no_such;
 pub use runs::{hint_for_given_order, hint_for_given_schedule, hint_for_order_in_ticks};
 pub use scenario_hints::{
-    hint_for_fault, hint_for_plain_number, hint_for_scenario, hint_for_sketch, with_label,
+    hint_for_fault, hint_for_plain_number, hint_for_scenario, hint_for_sketch, hint_for_written,
+    with_label,
 };
 pub use schedules::{has_waits, hint_for_order, hint_for_schedule};
 pub use targets::{hint_for_file_as_group, hint_for_named_group, is_name_of_file};

@@ -1,37 +1,43 @@
 use convoy_hints_sketch::{Hint, Ordinal, Part, Quoted, Sketch, words_of};
-use convoy_scenario::{DraftLink, DraftMulticast, LONGEST_NAME, Name, is_named_alike};
+use convoy_scenario::{DraftLink, DraftMulticast, LONGEST_NAME, is_named_alike};
 use std::alloc::{AllocError, Global};
 
 /// Which name is none, and why.
 pub(crate) fn hint_for_bad_name(alloc: Global, sketch: &Sketch<'_>) -> Hint {
-    match hint_for_bad_group(alloc, &sketch.draft.groups)? {
+    let groups = words_of(alloc, &sketch.draft.groups)?;
+    match hint_for_bad_place(alloc, "group", &groups)? {
         Some(hint) => Ok(Some(hint)),
         None => hint_for_bad_message(alloc, sketch),
     }
 }
 
-/// Which name of a group is none, and why.
-fn hint_for_bad_group(alloc: Global, groups: &[Name]) -> Hint {
-    for (before, name) in groups.iter().enumerate() {
-        if let Some(hint) = hint_for_group_name(alloc, before, name.as_str())? {
+/// Which of these names of groups, or of other places of that kind, is none, and why.
+pub fn hint_for_bad_place(alloc: Global, kind: &str, names: &[&str]) -> Hint {
+    for (before, name) in names.iter().enumerate() {
+        if let Some(hint) = hint_for_place_name(alloc, kind, before, name)? {
             return Ok(Some(hint));
         }
     }
     Ok(None)
 }
 
-/// Why the name of a group with so many before it is none.
-fn hint_for_group_name(alloc: Global, before: usize, name: &str) -> Hint {
+/// Why the name of a place of that kind with so many before it is none.
+fn hint_for_place_name(alloc: Global, kind: &str, before: usize, name: &str) -> Hint {
     let place = Ordinal(before.saturating_add(1));
     if name == "client" {
+        let advice = if kind == "group" {
+            "a multicast without 'from' is a client's"
+        } else {
+            "give it another name"
+        };
         return format!(in alloc;
-            "the {place} group is named \"client\", which is the word for the clients: a multicast without 'from' is a client's"
+            "the {place} {kind} is named \"client\", which is the word for the clients: {advice}"
         ).map(Some);
     }
     match what_is_bad(name) {
         Some(why) => {
             let name = Quoted(name);
-            format!(in alloc; "the name of the {place} group ({name}) {why}: {RULE}").map(Some)
+            format!(in alloc; "the name of the {place} {kind} ({name}) {why}: {RULE}").map(Some)
         }
         None => Ok(None),
     }

@@ -122,7 +122,7 @@ fn hint_for_stray(alloc: Global, stray: Stray<'_>, groups: &[&str]) -> Result<St
 
 /// A name at that place is that of nothing of that kind, of which these are the names: the one that it is near to, or
 /// else all of them.
-pub(crate) fn hint_for_no_such(
+pub fn hint_for_no_such(
     alloc: Global,
     place: &str,
     kind: &'static str,

@@ -1,5 +1,5 @@
 use super::damage::{hint_for_bytes, hint_for_damage};
-use super::inputs::is_meant_as_certificate;
+use super::inputs::{is_meant_as_certificate, is_meant_as_plan};
 use super::names::{hint_for_bad_name, hint_for_double_name};
 use super::numbers::{hint_for_least_of_all, hint_for_limit, hint_for_many_links};
 use super::ranges::hint_for_no_range;
@@ -10,8 +10,8 @@ use super::references::{
 };
 use convoy_certificate::{Form, form_of};
 use convoy_hints_sketch::{
-    Hint, Quoted, ScenarioText, Sketch, hint_for_deadline, hint_for_mixture, hint_for_part_of_tick,
-    hint_for_shape, sketch_of_draft, spot_at, with_cause_of_tick,
+    Hint, Quoted, ScenarioText, Sketch, TextKind, hint_for_deadline, hint_for_mixture,
+    hint_for_part_of_tick, hint_for_shape, sketch_of_draft, spot_at, with_cause_of_tick,
 };
 use convoy_scenario::{DraftScenario, Key, Limit, Scenario, ScenarioFault};
 use convoy_toml::{
@@ -162,7 +162,11 @@ fn hint_for_table(alloc: Global, text: &[u8], asked: &Asked, fault: ScenarioFaul
     let (Ok(table), Ok(text)) = (read_table(alloc, text), std::str::from_utf8(text)) else {
         return Ok(None);
     };
+    if is_meant_as_plan(&table) {
+        return hint_for_given_plan(alloc, &table).map(Some);
+    }
     let source = ScenarioText {
+        kind: TextKind::Scenario,
         text,
         table: &table,
     };
@@ -170,9 +174,33 @@ fn hint_for_table(alloc: Global, text: &[u8], asked: &Asked, fault: ScenarioFaul
         Ok(written) => written.scenario,
         Err(placed) => return hint_for_key(alloc, source, &placed),
     };
-    match draft_of_written(alloc, &written) {
-        Ok(draft) => hint_for_draft(alloc, source, asked, &written, draft, fault),
-        Err(placed) => hint_for_times(alloc, source, &written, &placed),
+    hint_for_written(alloc, source, asked, &written, fault)
+}
+
+/// A plan was given where a scenario is read.
+fn hint_for_given_plan(alloc: Global, table: &Table) -> Result<String, AllocError> {
+    let sign = if table.contains_key("sites") {
+        "the key 'sites'"
+    } else {
+        "tables [[group]]"
+    };
+    format!(in alloc;
+        "the input has {sign}, as a plan has, and a scenario is read here: 'convoy plan' reads plans, and 'convoy plan --scenario' writes the scenario of the best placement"
+    )
+}
+
+/// What is wrong with what is written in a text that has that fault where this is asked, and whose shape is that of a
+/// scenario, or was as far as it was read.
+pub fn hint_for_written(
+    alloc: Global,
+    source: ScenarioText<'_>,
+    asked: &Asked,
+    written: &WrittenScenario,
+    fault: ScenarioFault,
+) -> Hint {
+    match draft_of_written(alloc, written) {
+        Ok(draft) => hint_for_draft(alloc, source, asked, written, draft, fault),
+        Err(placed) => hint_for_times(alloc, source, written, &placed),
     }
 }
 

@@ -1,6 +1,6 @@
 /// The line, from 1, of a table of an array by its place among `count`: that of its header. None where
 /// the text has not one such header for each table, as where tables are written inline.
-pub(crate) fn header_line(text: &str, header: &str, place: usize, count: usize) -> Option<usize> {
+pub fn header_line(text: &str, header: &str, place: usize, count: usize) -> Option<usize> {
     let mut headers: usize = 0;
     let mut number = None;
     for (before, line) in text.lines().enumerate() {

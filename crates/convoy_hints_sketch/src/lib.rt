@@ -7,10 +7,11 @@
 pub use counting::noun;
 pub use deadlines::hint_for_deadline;
 pub use durations::{Length, shown_time, shown_written};
+pub use headers::header_line;
 pub use hint::Hint;
 pub use near::nearest;
 pub use other_keys::is_word_for_clients;
-pub use part::Part;
+pub use part::{Part, TextKind};
 pub use quoting::{Names, Ordinal, Quoted};
 pub use scenario_text::ScenarioText;
 pub use shape::hint_for_shape;

@@ -2,12 +2,33 @@ use super::quoting::{Ordinal, Quoted};
 use convoy_toml::ScenarioTable;
 use std::fmt;
 
-/// A table of a scenario, or a line of a certificate, as a person finds it: `the 2nd multicast ("t",
+/// What a text is that has the tables of a scenario.
+#[derive(Clone, Copy, PartialEq, Eq)]
+pub enum TextKind {
+    /// A scenario.
+    Scenario,
+    /// A plan.
+    Plan,
+}
+
+impl TextKind {
+    /// What it is called.
+    pub(crate) fn words(self) -> &'static str {
+        match self {
+            TextKind::Scenario => "the scenario",
+            TextKind::Plan => "the plan",
+        }
+    }
+}
+
+/// A table of a scenario or of a plan, or a line of a certificate, as a person finds it: `the 2nd multicast ("t",
 /// line 9)`.
 #[derive(Clone, Copy, Drop)]
 pub struct Part<'a> {
     /// Which it is.
     pub table: ScenarioTable,
+    /// What the whole text is.
+    pub kind: TextKind,
     /// What it is named; None where it has no name.
     pub name: Option<&'a str>,
     /// The line at which it begins, from 1; None where it has no line of its own.
@@ -26,6 +47,7 @@ impl<'a> Part<'a> {
     pub fn alone(table: ScenarioTable) -> Part<'a> {
         Part {
             table,
+            kind: TextKind::Scenario,
             name: None,
             line: None,
         }
@@ -34,7 +56,7 @@ impl<'a> Part<'a> {
     /// Writes which one of its kind it is: `the 2nd multicast`.
     fn write_which<W: fmt::Write>(&self, f: &mut fmt::Formatter<W>) -> fmt::Result {
         match self.table {
-            ScenarioTable::Top => f.write_str("the scenario"),
+            ScenarioTable::Top => f.write_str(self.kind.words()),
             ScenarioTable::Multicast(number) => write_numbered(f, number, "multicast"),
             ScenarioTable::Target => f.write_str("the target"),
             ScenarioTable::Link(number) => write_numbered(f, number, "link"),

@@ -1,12 +1,14 @@
 use super::headers::header_line;
-use super::part::Part;
+use super::part::{Part, TextKind};
 use convoy_scenario::Key;
 use convoy_toml::ScenarioTable;
 use toml::{Table, Value};
 
-/// A scenario text, and its table.
+/// A scenario text or a plan text, and its table.
 #[derive(Clone, Copy, Drop)]
 pub struct ScenarioText<'a> {
+    /// Which of the two it is.
+    pub kind: TextKind,
     /// The text.
     pub text: &'a str,
     /// The table that it is.
@@ -41,7 +43,9 @@ impl<'a> ScenarioText<'a> {
             ScenarioTable::Multicast(_) => self.items_at(Key::Multicast).len(),
             ScenarioTable::Link(_) => self.items_at(Key::Link).len(),
         };
-        part_of(self.text, table, among, self.name_of(table))
+        let mut part = part_of(self.text, table, among, self.name_of(table));
+        part.kind = self.kind;
+        part
     }
 
     /// What a table of an array is named.
@@ -97,5 +101,10 @@ pub(crate) fn part_of<'a>(
         ScenarioTable::Target => header_line(text, "[target]", 0, among),
         ScenarioTable::Link(number) => header_line(text, "[[link]]", number, among),
     };
-    Part { table, name, line }
+    Part {
+        table,
+        kind: TextKind::Scenario,
+        name,
+        line,
+    }
 }

@@ -23,7 +23,7 @@ use Rattle.convoy_commands.specs.declared.telling.Telling.{Telling}
 use Rattle.convoy_commands.specs.Asks.{AskSays}
 use Rattle.convoy_commands.specs.First.{first_text}
 use Rattle.convoy_commands.specs.Inputs.{reply_of_reading, reply_to_form}
-use Rattle.convoy_commands.specs.Faults.{told_of_ranges}
+use Rattle.convoy_commands.specs.Faults.{told_of_plan, told_of_ranges}
 use Rattle.convoy_commands.specs.Ranging.{RangesSay, links_told}
 use Rattle.convoy_commands.specs.Replies.{fine}
 use Rattle.convoy_commands.specs.Searches.{IsFaultyBy}
@@ -40,6 +40,10 @@ use Rattle.convoy_survey.specs.CeilingTables.{CeilingsSay}
 use Rattle.convoy_what_if.specs.WhatIf.{WhatIfSays}
 use Rattle.convoy_report.specs.Reports.{ReportSays}
 use Rattle.convoy_budget.specs.Answers.{BudgetSays}
+use Rattle.convoy_plans.specs.declared.fault.PlanFault.{PlanFault}
+use Rattle.convoy_plans.specs.declared.fault.PlanFault.TheVariants as plans
+use Rattle.convoy_best_order.specs.declared.wanted.Wanted.{Wanted}
+use Rattle.convoy_best_plan.specs.Answers.{PlacingSays, PlanSays}
 use Rattle.convoy_ranges.specs.Answers.{ranges_text}
 use Rattle.convoy_ranges.specs.declared.asked.RangeRules.{RangeRules}
 use Rattle.convoy_ranges.specs.declared.fault.RangesFault.{RangesFault}
@@ -50,7 +54,7 @@ use Rattle.convoy_sweep.specs.declared.fault.SweepFault.TheVariants as sweeps
 use Rattle.convoy_sweep.specs.declared.kinds.Setting.{Setting}
 use Rattle.convoy_sweep.specs.declared.kinds.Sweep.{Sweep as AskedSweep}
 use Rattle.convoy_tasks.specs.declared.task.Task.{Task}
-use Rattle.convoy_tasks.specs.declared.task.Task.TheVariants.{First, Tell, Check, Explain, Draw, Ceiling, Ceilings, Analyse, Latency, Survey, WhatIf, Report, Budget, Order, Listing, Ranges, Sweep, Curve, BatchTable}
+use Rattle.convoy_tasks.specs.declared.task.Task.TheVariants.{First, Tell, Check, Explain, Draw, Ceiling, Ceilings, Analyse, Latency, Survey, WhatIf, Report, Budget, Order, Listing, Plan, Placing, Ranges, Sweep, Curve, BatchTable}
 use Rattle.convoy_tasks.specs.Abouts.{check_says}
 use Rattle.convoy_tasks.specs.Tasks.{task_says}
 
@@ -148,6 +152,25 @@ table_no_device (Err cause) fault is = let same : fault ≡ told_of_ranges cause
 ranges_no_device : (rules : RangeRules) (text : List ℕ) (fault : Fault) → RangesSay rules text (Err fault) → IsNoDevice fault
 ranges_no_device rules text fault says = table_no_device (ranges_text rules text) fault (fault_of_fine (links_told rules text) fault says)
 
+-- why a text is that of no plan is no device's fault
+no_device_in_plan : (cause : PlanFault) → IsNoDevice (told_of_plan cause)
+no_device_in_plan (plans.Scenario cause) = no_device_in_scenario cause
+no_device_in_plan (plans.Shape key) = tt
+no_device_in_plan (plans.OverLimit limit) = tt
+no_device_in_plan plans.UnknownSite = tt
+no_device_in_plan plans.NoSites = tt
+no_device_in_plan plans.NoPlace = tt
+no_device_in_plan plans.NoRange = tt
+no_device_in_plan plans.NoPlacement = tt
+
+plan_no_device : (format : Format) (wanted : Wanted) (with_reasons : Bool) (asked : Asked) (settings : Settings) (text : List ℕ) (fault : Fault) → PlanSays format wanted with_reasons asked settings text (Err fault) → IsNoDevice fault
+plan_no_device format wanted with_reasons asked settings text fault (inl faulty) = rw faulty.told (no_device_in_plan faulty.cause)
+plan_no_device format wanted with_reasons asked settings text fault (inr none) = rw none.told tt
+
+placing_no_device : (wanted : Wanted) (asked : Asked) (settings : Settings) (text : List ℕ) (fault : Fault) → PlacingSays wanted asked settings text (Err fault) → IsNoDevice fault
+placing_no_device wanted asked settings text fault (inl faulty) = rw faulty.told (no_device_in_plan faulty.cause)
+placing_no_device wanted asked settings text fault (inr none) = rw none.told tt
+
 pub says_no_device : (task : Task) (wanted : Option Scenario) (text : List ℕ) (fault : Fault) → task_says task wanted text (Err fault) → IsNoDevice fault
 says_no_device (First asked) wanted text fault says = first_no_device asked text fault (fault_of_fine (first_text asked text) fault says)
 says_no_device (Tell telling) wanted text fault says = tell_no_device telling text fault says
@@ -168,6 +191,8 @@ says_no_device (Budget format of_all of_ceiling asked options) wanted text fault
 says_no_device (Order format wanting with_reasons asked options) wanted text fault says = search_no_device asked text fault says
 says_no_device (Ranges rules) wanted text fault says = ranges_no_device rules text fault says
 says_no_device (Listing wanting asked options) wanted text fault says = search_no_device asked text fault says
+says_no_device (Plan format wanting with_reasons asked options) wanted text fault says = plan_no_device format wanting with_reasons asked options text fault says
+says_no_device (Placing wanting asked options) wanted text fault says = placing_no_device wanting asked options text fault says
 says_no_device (Sweep format sweep envelope asked options) wanted text fault says = sweep_no_device format sweep envelope asked options text fault says
 says_no_device (Curve setting envelope asked options) wanted text fault says = curve_no_device setting envelope asked options text fault says
 says_no_device (BatchTable format asked options tells_status) wanted text fault says = rw says.0 tt

@@ -33,6 +33,7 @@ pub use Rattle.convoy_what_if.specs.WhatIf
 pub use Rattle.convoy_report.specs.Reports
 pub use Rattle.convoy_budget.specs.Answers as BudgetAnswers
 pub use Rattle.convoy_best_order.specs.Answers as OrderAnswers
+pub use Rattle.convoy_best_plan.specs.Answers as PlanAnswers
 pub use Rattle.convoy_scenario.specs.Differences
 -- what a reader has to believe: what is told of what was accepted, what may be answered for each task, and what its run does at its devices
 pub mod AcceptedLines

@@ -20,12 +20,13 @@ use Rattle.convoy_what_if.specs.WhatIf.{WhatIfSays}
 use Rattle.convoy_report.specs.Reports.{ReportSays}
 use Rattle.convoy_budget.specs.Answers.{BudgetSays}
 use Rattle.convoy_best_order.specs.Answers.{ListingSays, OrderSays}
+use Rattle.convoy_best_plan.specs.Answers.{PlacingSays, PlanSays}
 use Rattle.convoy_ranges.specs.declared.fault.TheConstants.{MOST_BYTES}
 use Rattle.convoy_sweep.specs.Told.{CurveTold, SweepTold}
 use Rattle.convoy_tasks.specs.declared.batch_table.TheConstants.{LONGEST_BATCH}
 use Rattle.convoy_tasks.specs.BatchTables.{BatchTableSays}
 use Rattle.convoy_tasks.specs.declared.task.Task.{Task}
-use Rattle.convoy_tasks.specs.declared.task.Task.TheVariants.{First, Tell, Check, Explain, Draw, Ceiling, Ceilings, Analyse, Latency, Survey, WhatIf, Report, Budget, Order, Listing, Ranges, Sweep, Curve, BatchTable}
+use Rattle.convoy_tasks.specs.declared.task.Task.TheVariants.{First, Tell, Check, Explain, Draw, Ceiling, Ceilings, Analyse, Latency, Survey, WhatIf, Report, Budget, Order, Listing, Plan, Placing, Ranges, Sweep, Curve, BatchTable}
 use Rattle.convoy_tasks.specs.Abouts.{check_says}
 
 -- THE RULE OF A TASK: what may be answered for a text. The scenario that is wanted, if one is, is that of which a certificate has to be; no other task looks at it.
@@ -46,6 +47,8 @@ task_says (Budget format of_all of_ceiling asked options) wanted = BudgetSays fo
 task_says (Order format wanting with_reasons asked options) wanted = OrderSays format wanting with_reasons asked options
 task_says (Ranges rules) wanted = RangesSay rules
 task_says (Listing wanting asked options) wanted = ListingSays wanting asked options
+task_says (Plan format wanting with_reasons asked options) wanted = PlanSays format wanting with_reasons asked options
+task_says (Placing wanting asked options) wanted = PlacingSays wanting asked options
 task_says (Sweep format sweep envelope asked options) wanted = SweepTold format sweep envelope asked options
 task_says (Curve setting envelope asked options) wanted = CurveTold setting envelope asked options
 task_says (BatchTable format asked options tells_status) wanted = BatchTableSays format asked options
@@ -68,6 +71,8 @@ longest_for (Budget format of_all of_ceiling asked options) = LONGEST_JOB
 longest_for (Order format wanting with_reasons asked options) = LONGEST_JOB
 longest_for (Ranges rules) = MOST_BYTES
 longest_for (Listing wanting asked options) = LONGEST_JOB
+longest_for (Plan format wanting with_reasons asked options) = LONGEST_JOB
+longest_for (Placing wanting asked options) = LONGEST_JOB
 longest_for (Sweep format sweep envelope asked options) = LONGEST_JOB
 longest_for (Curve setting envelope asked options) = LONGEST_JOB
 longest_for (BatchTable format asked options tells_status) = LONGEST_BATCH
@@ -83,6 +88,8 @@ NeedsNoSearch (Report asked options) = ⊥
 NeedsNoSearch (Budget format of_all of_ceiling asked options) = ⊥
 NeedsNoSearch (Order format wanting with_reasons asked options) = ⊥
 NeedsNoSearch (Listing wanting asked options) = ⊥
+NeedsNoSearch (Plan format wanting with_reasons asked options) = ⊥
+NeedsNoSearch (Placing wanting asked options) = ⊥
 NeedsNoSearch (Sweep format sweep envelope asked options) = ⊥
 NeedsNoSearch (Curve setting envelope asked options) = ⊥
 NeedsNoSearch (BatchTable format asked options tells_status) = ⊥

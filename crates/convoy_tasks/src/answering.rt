@@ -11,6 +11,7 @@ use super::batch_table::{LONGEST_BATCH, batch_table_answer};
 use super::checking::check_answer;
 use super::task::Task;
 use convoy_best_order::{listing_answer, order_answer};
+use convoy_best_plan::{placing_answer, plan_answer};
 use convoy_budget::budget_answer;
 use convoy_commands::{
     Answer, Asking, Fault, LONGEST_CERTIFICATE, LONGEST_JOB, Watch, analyse_answer, ask,
@@ -35,9 +36,9 @@ use std::thread::Threads;
 ///
 /// The faults are those of a text: `Fault::Scenario` where it is that of no scenario, where none of its groups has the
 /// name that is given, or where a change of it makes none; `Fault::Sweep` where its keys can't be given the values of a
-/// sweep; `Fault::Schedule` and `Fault::Order` for a schedule that is
-/// none of it; `Fault::Reading` for a scenario of more than [`LONGEST_JOB`] bytes where a certificate may be longer;
-/// `Fault::TooManyJobs`; and `Fault::Memory`.
+/// sweep; `Fault::Plan` where it is that of no plan, or of one that has no placement; `Fault::Schedule` and
+/// `Fault::Order` for a schedule that is none of it; `Fault::Reading` for a scenario of more than [`LONGEST_JOB`] bytes
+/// where a certificate may be longer; `Fault::TooManyJobs`; and `Fault::Memory`.
 pub fn answer<R: Threads + Wait + Sync, W: Watch + Sync>(
     rt: &R,
     alloc: Global,
@@ -124,6 +125,28 @@ pub fn answer<R: Threads + Wait + Sync, W: Watch + Sync>(
             asked,
             options,
         } => listing_answer(rt, alloc, *wanted, asked, options, text, watches),
+        Task::Plan {
+            format,
+            wanted,
+            with_reasons,
+            asked,
+            options,
+        } => plan_answer(
+            rt,
+            alloc,
+            *format,
+            *wanted,
+            *with_reasons,
+            asked,
+            options,
+            text,
+            watches,
+        ),
+        Task::Placing {
+            wanted,
+            asked,
+            options,
+        } => placing_answer(rt, alloc, *wanted, asked, options, text, watches),
         Task::Sweep {
             format,
             sweep,
@@ -210,6 +233,8 @@ pub(crate) fn answer_at_once(
         | Task::Budget { .. }
         | Task::Order { .. }
         | Task::Listing { .. }
+        | Task::Plan { .. }
+        | Task::Placing { .. }
         | Task::Sweep { .. }
         | Task::Curve { .. }
         | Task::BatchTable { .. } => unreachable!(),
@@ -300,6 +325,8 @@ pub fn longest_of(task: &Task) -> usize
         | Task::Budget { .. }
         | Task::Order { .. }
         | Task::Listing { .. }
+        | Task::Plan { .. }
+        | Task::Placing { .. }
         | Task::Sweep { .. }
         | Task::Curve { .. } => LONGEST_JOB,
     }

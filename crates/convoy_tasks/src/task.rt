@@ -106,6 +106,21 @@ pub enum Task {
         asked: Asked,
         options: Options,
     },
+    /// The best placement and order of the groups of a plan for the targets that are wanted, as a table in that format, and
+    /// whether the reasons why no order is better there are told below it.
+    Plan {
+        format: Format,
+        wanted: Wanted,
+        with_reasons: bool,
+        asked: Asked,
+        options: Options,
+    },
+    /// The scenario of that placement with its groups in that order, as a text.
+    Placing {
+        wanted: Wanted,
+        asked: Asked,
+        options: Options,
+    },
     /// The links that a table of round trips gives by these rules.
     Ranges {
         rules: RangesAsked,
