@@ -26,6 +26,11 @@ class Answer(typing.NamedTuple):
     errors: str
 
 
+def example_scenarios():
+    """The texts of examples/ that are scenarios; others are plans."""
+    return sorted(path for path in (ROOT / "examples").glob("*.toml") if path.suffixes != [".plan", ".toml"])
+
+
 def load(path):
     """A script as a module."""
     loader = importlib.machinery.SourceFileLoader(path.name, str(path))
