@@ -1,5 +1,5 @@
 use Rattle.std.proofs.Common.{◌≡◌, ◌↔◌, true, Result, Ok, Err, IfOk, List, ℕ, subst, sym, ◌∙◌}
-use Rattle.core.specs.declared.alloc.AllocError.{AllocError}
+use Rattle.std.specs.declared.alloc.AllocError.{AllocError}
 use Rattle.convoy_plans.specs.Placements.{IsPlacement}
 use Rattle.convoy_best_plan.specs.declared.standing.Standing.{Standing}
 use Rattle.convoy_best_plan.specs.Standings.{ArePassed, IsPassed}
