@@ -4,43 +4,12 @@ This is written from docs/FORMATS.md, and shares nothing with the program. A pla
 scenario; a placement tells the site of each group.
 """
 
-import fractions
 import itertools
-import math
-import re
 
-from tables import may_wait
+from tables import targets_of, tick_of, ticks
 
-NANOSECONDS = {"ns": 1, "us": 1_000, "ms": 1_000_000, "s": 1_000_000_000}
-DURATION = re.compile(r"(\d+(?:\.\d+)?) ?(ns|us|ms|s)")
 # What sends a message that has no sender in a scenario.
 CLIENT = None
-
-
-def nanoseconds(text):
-    """How long a duration is."""
-    number, unit = DURATION.fullmatch(text).groups()
-    return int(fractions.Fraction(number) * NANOSECONDS[unit])
-
-
-def times_of(table):
-    """All times that make a tick: deadlines are none of them."""
-    yield from (table[key] for key in ("delay", "least") if key in table)
-    yield from (message[key] for message in table["multicast"] for key in ("at", "until") if key in message)
-    yield from (link[key] for link in table.get("link", []) for key in ("least", "most"))
-
-
-def tick_of(table):
-    """How many nanoseconds a tick has; None where it has no length."""
-    if "tick" in table:
-        return nanoseconds(table["tick"])
-    told = [nanoseconds(time) for time in times_of(table) if isinstance(time, str)]
-    return math.gcd(*told) if told else None
-
-
-def ticks(table, time):
-    """How many whole ticks there are in a time."""
-    return time if isinstance(time, int) else nanoseconds(time) // tick_of(table)
 
 
 def deadlines_of(table, at_most=None):
@@ -133,12 +102,6 @@ def scenario_of(plan, placement, order=None, target=None):
 def orders_of(plan):
     """All orders of the groups; those that stand for clients come last, since nothing goes to them."""
     return [(*order, *client_sites(plan)[1:]) for order in itertools.permutations(plan["groups"])]
-
-
-def targets_of(plan):
-    """Each message that does not wait at each group that it goes to, in the order of their numbers."""
-    for message in itertools.filterfalse(may_wait, plan["multicast"]):
-        yield from ((message["name"], group) for group in sorted(message["to"], key=plan["groups"].index))
 
 
 def longest(plan, scenario):

@@ -85,6 +85,19 @@ class Scenario:
         """The scenario in which each message may wait so long."""
         return Scenario(self.delay, self.groups, self.messages, self.target, self.at, self.links, self.real, waits)
 
+    def issued_later(self, ticks):
+        """The scenario in which each message may be issued so many ticks later, and no sooner."""
+        messages = [(sender, to, at + ticks) for sender, to, at in self.messages]
+        return Scenario(self.delay, self.groups, messages, self.target, self.at, self.links, self.real, self.waits)
+
+    def widened(self):
+        """The scenario in which the target is issued at the end of its window, and each other message may wait as much longer as
+        the target might: it has all runs of this one, moved."""
+        longer = self.waits[self.target]
+        messages = [(sender, to, at + longer * (number == self.target)) for number, (sender, to, at) in enumerate(self.messages)]
+        waits = [0 if number == self.target else wait + longer for number, wait in enumerate(self.waits)]
+        return Scenario(self.delay, self.groups, messages, self.target, self.at, self.links, self.real, waits)
+
 
 def quoted(groups):
     """The names of groups, as an array."""
@@ -175,9 +188,14 @@ def chance_scenario(chance, real):
 
 
 def chance_waits(chance, delay, number, target):
-    """How long each of so many messages may wait: one of them at least, and never the target."""
+    """How long each of so many messages may wait: some of them, with the target or without it, the target alone, or all of
+    them as long."""
     others = [message for message in range(number) if message != target]
     waiting = {chance.choice(others), *(message for message in others if chance.random() < 0.6)}
+    kind = chance.choice(["others", "others", "target too", "target alone", "all as long"])
+    if kind == "all as long":
+        return [chance.randint(1, 2 * delay)] * number
+    waiting = {target} if kind == "target alone" else waiting | {target} if kind == "target too" else waiting
     return [chance.randint(1, 3 * delay) if message in waiting else 0 for message in range(number)]
 
 
@@ -197,9 +215,9 @@ def chance_narrow_links(chance, delay, groups):
 
 
 def chance_windows(chance, real):
-    """A scenario of two to four messages, of which one or more may wait, and most come to the target's group while the target
-    is on its way, now and then long after tick 0. Few packets have a choice of delays, so that all waits can be tried with
-    all delays."""
+    """A scenario of two to four messages, of which one or more may wait, the target or others, and most come to the target's
+    group while the target is on its way, now and then long after tick 0. Few packets have a choice of delays, so that all
+    waits can be tried with all delays."""
     delay, groups = chance.choice([1, 2, 2, 3] if real else [2, 2, 3, 3, 4]), chance.choice([2, 2, 3])
     number = chance.choice([2, 3, 3] if real else [2, 3, 3, 4])
     target, at = chance.randrange(number), chance.randrange(groups)
@@ -209,6 +227,14 @@ def chance_windows(chance, real):
     sender, to, _ = messages[target]
     messages[target] = sender, sorted({at, *to}), begin
     return Scenario(delay, groups, messages, target, at, chance_narrow_links(chance, delay, groups), real, waits)
+
+
+def chance_target(chance, real):
+    """A scenario as `chance_scenario` makes it, but that the target may wait one to four ticks; half of the time each other
+    message may as well."""
+    scenario = chance_scenario(chance, real)
+    wait, is_alone = chance.randint(1, 4), chance.random() < 0.5
+    return scenario.waiting([0 if is_alone and number != scenario.target else wait for number in range(len(scenario.messages))])
 
 
 def small_scenarios(chance, most=MOST_SCHEDULES, real=False, made=chance_scenario):
@@ -289,7 +315,7 @@ def latency(scenario, packets, schedule, ranks=None):
     for (tick, _, is_commit, message, group), following in zip(moments, [*moments[1:], (math.inf,)]):
         run.act(message, group, is_commit)
         if following[0] > tick and run.has_delivered():
-            return tick - scenario.messages[scenario.target][2]
+            return tick - issue_ticks(scenario, packets, schedule)[scenario.target]
     raise AssertionError("the target is never delivered")
 
 
@@ -320,7 +346,7 @@ def latest(scenario, packets, schedule):
             runs = in_any_order(runs, group)
         runs = [run for run in runs if not run.has_delivered()]
         if not runs:
-            return tick - scenario.messages[scenario.target][2]
+            return tick - issue_ticks(scenario, packets, schedule)[scenario.target]
     raise AssertionError("the target is never delivered")
 
 

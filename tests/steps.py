@@ -1,12 +1,12 @@
 """How many steps it takes to check a certificate, counted as docs/FORMATS.md says ("Steps").
 
 From when to when a message may be committed is found by tests/schedules.py, under the least delays and waits of a box and
-under its greatest ones: nothing of the program is used.
+under its greatest ones: nothing of the program is used. Where the target may wait, leads are those of the widened box.
 """
 
 import itertools
 
-from schedules import of_certificate, times
+from schedules import WAIT, of_certificate, times
 
 
 def nodes_of(text):
@@ -29,8 +29,19 @@ def ticks_of_pair(scenario, first, last, pair):
     return min(3 * len(first), ticks)
 
 
+def widened_box(scenario, box):
+    """The box of the widened scenario that has the members of a box, moved so that the target is issued last."""
+    ranges, longer = dict(zip(scenario.packets(), box)), scenario.waits[scenario.target]
+    sender = scenario.messages[scenario.target][0]
+    soonest, latest = ranges.get((scenario.target, sender, sender, WAIT), (0, 0))
+    for packet in scenario.widened().packets():
+        least, most = ranges.get(packet, (0, 0))
+        yield (least + longer - latest, most + longer - soonest) if packet[3] is WAIT else (least, most)
+
+
 def steps_of_leads(scenario, named, box, orders):
     """The steps of a lead leaf that names that latency, below so many splits by order."""
+    scenario, box = scenario.widened(), list(widened_box(scenario, box))
     first, last = commits(scenario, box)
     _, groups, issue = scenario.messages[scenario.target]
     late = sum(last.get((message, scenario.at), 0) > issue + named for message, _ in first)

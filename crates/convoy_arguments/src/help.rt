@@ -261,8 +261,7 @@ third line tells whether all such traffic keeps it, as with `latency`, and so do
 exit status. In tables columns VERDICT and BY do.
 
 With `--all` a table is written instead, with a row for each message at each group
-that it goes to, and with `--group GROUP` for each message that goes to that group,
-but for messages with an issue window (`until`), which are no targets:
+that it goes to, and with `--group GROUP` for each message that goes to that group:
   message  group  ceiling  attained
   t        a           12        12
   t        *           12        12
@@ -302,8 +301,7 @@ pub(crate) const ABOUT_SURVEY: &str = "Tells the greatest latency of each messag
 pub(crate) const LONG_ABOUT_SURVEY: &str = "\
 Reads a scenario, searches for the greatest latency of each message at each group
 that it goes to, as `latency` does for that target, and writes a table with a row
-for each, in the order of the text, but for messages with an issue window (`until`),
-which are no targets:
+for each, in the order of the text:
   message  group  answer    least  most  rival  tied  nodes
   t        a      greatest     12    12  y      x         1
   t        *      greatest     12    12  y      x         -

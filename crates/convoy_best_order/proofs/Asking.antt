@@ -46,7 +46,7 @@ well_asked scenario target well may = record {
   messages = well.messages;
   target = may.known;
   addressed = may.addressed;
-  fixed = may.fixed;
+  room = may.room;
 }
 
 -- ---- one scenario with two targets

@@ -1,5 +1,5 @@
 -- The scenario with its groups in an order is one.
-use Rattle.std.proofs.Common.{◌≡◌, ◌⊎◌, ℕ, ◌+◌, ◌<◌, List, [], length, map, get_or, Result, Ok, Err, inl, inr, subst, ◌∙◌, arith}
+use Rattle.std.proofs.Common.{◌≡◌, ◌⊎◌, ℕ, ◌+◌, ◌<◌, List, [], length, map, get_or, Result, Ok, Err, inl, inr, subst, ◌∙◌, arith, sym}
 use Rattle.std.specs.List.{range_with_len}
 use Rattle.std.specs.List.Sorted.{IsPermutation}
 use Rattle.std.proofs.lemmas.List.{ext_get_or}
@@ -52,3 +52,8 @@ pub memory_alone : (want made : Result Scenario ScenarioFault) (scenario : Scena
     → made ≡ Err fault → fault ≡ Memory
 memory_alone want made scenario fault is (inl same) failed = absurd (not_both made scenario fault (same ∙ is) failed)
 memory_alone want made scenario fault is (inr memory) failed = one_fault made fault Memory failed memory
+
+-- what is made is the scenario that is wanted
+pub made_ok : (want made : Result Scenario ScenarioFault) (other : Scenario) → (made ≡ want) ⊎ (made ≡ Err Memory) → made ≡ Ok other → want ≡ Ok other
+made_ok want made other (inl same) is = sym same ∙ is
+made_ok want made other (inr memory) is = absurd (not_both made other Memory is memory)

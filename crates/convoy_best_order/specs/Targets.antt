@@ -1,8 +1,8 @@
 -- For which targets an order is to be the best.
-use Rattle.std.specs.Prelude.{ℕ, Bool, true, false, ◌==◌, ◌||◌, not, List, [], ◌∷◌, filter, Option, Some, None, is_some, unwrap_or, if◌then◌else◌}
+use Rattle.std.specs.Prelude.{ℕ, Bool, true, false, ◌==◌, ◌&&◌, ◌||◌, not, List, [], ◌∷◌, filter, Option, Some, None, is_some, unwrap_or, if◌then◌else◌}
 use Rattle.std.specs.List.{flat_map, list_any}
-use Rattle.convoy_scenario.specs.Scenario.{Scenario, may_wait, message_at, message_numbers}
-use Rattle.convoy_scenario.specs.Targets.{with_target}
+use Rattle.convoy_scenario.specs.Scenario.{Scenario, message_at, message_numbers}
+use Rattle.convoy_scenario.specs.Targets.{may_be_target, with_target}
 use Rattle.convoy_commands.specs.Verdicts.{deadline_at}
 use Rattle.convoy_survey.specs.Surveys.{IsTarget}
 use Rattle.convoy_best_order.specs.declared.target.Target.{Target}
@@ -20,12 +20,10 @@ is_wanted Asked deadline = false
 abbrev pub target_with : List (Option ℕ) → ℕ → ℕ → Target
 target_with deadlines m g = record { message = m; group = g; deadline = deadline_at deadlines m }
 
--- the same, unless the message may wait, or is not wanted
+-- the same, if the message may be the target and is wanted
 abbrev pub target_at : Wanted → List (Option ℕ) → Scenario → ℕ → ℕ → List Target
 target_at wanted deadlines scenario m g =
-    if may_wait (message_at scenario m) then []
-    else if is_wanted wanted (deadline_at deadlines m) then target_with deadlines m g ∷ []
-    else []
+    if may_be_target scenario m && is_wanted wanted (deadline_at deadlines m) then target_with deadlines m g ∷ [] else []
 
 -- the message at each group that it goes to
 abbrev pub targets_at : Wanted → List (Option ℕ) → Scenario → ℕ → List Target

@@ -1,6 +1,8 @@
-ghost use Rattle.std.specs.Prelude.{◌≡◌, ◌<◌, [], ◌++◌, length, IfOk, OnOk};
+ghost use Rattle.std.specs.Prelude.{◌≡◌, ◌<◌, [], ◌∷◌, ◌++◌, length, IfOk, OnOk};
 ghost use Rattle.std.specs.List.{All, flat_map, list_any};
+ghost use Rattle.convoy_scenario.specs.Room.{HasRoom};
 ghost use Rattle.convoy_scenario.specs.Scenario.{GoesTo, message_numbers};
+ghost use Rattle.convoy_scenario.specs.Targets.{with_target};
 ghost use Rattle.convoy_best_order.specs.Targets.{MayBeTarget, are_judged, counted, has_target, is_at, many_targets, or_asked, target_at, target_with, targets_at, targets_of, uncounted};
 
 use super::target::Target;
@@ -10,7 +12,7 @@ use convoy_scenario::Scenario;
 use std::alloc::{AllocError, Global};
 
 /// The targets for which an order is to be the best, by the deadlines of the messages, in ticks: those messages that are
-/// wanted, but for messages that may wait, at each group that they go to, in the order of their numbers; and where there
+/// wanted and may be the target, at each group that they go to, in the order of their numbers; and where there
 /// are none, the target of which the latency is asked. Fails where memory runs out, and else never.
 pub fn targets_of(
     alloc: Global,
@@ -80,7 +82,7 @@ fn push_message(
     Ok(())
 }
 
-/// Appends a message at a group that it goes to, unless it may wait or is not wanted.
+/// Appends a message at a group that it goes to, if it may be the target and is wanted.
 fn push_target(
     wanted: Wanted,
     deadlines: &[Option<u32>],
@@ -95,12 +97,28 @@ fn push_target(
     ensures value { OnOk result (targets.new.items ≡ targets.old.items ++ target_at wanted deadlines.now scenario.now message group) }
     ensures lawful { OnOk result (All (MayBeTarget scenario.now) targets.new.items) }
 {
-    if 0 < scenario.longest_wait(message) {
-        return Ok(());
+    if scenario.may_be_target(message) && wanted.is_wanted(deadline_at(deadlines, message)) {
+        return push_wanted(deadlines, scenario, message, group, targets);
     }
-    if wanted.is_wanted(deadline_at(deadlines, message)) {
-        targets.push(target_with(deadlines, message, group))?;
-    }
+    Ok(())
+}
+
+/// Appends a message that may be the target at a group that it goes to.
+fn push_wanted(
+    deadlines: &[Option<u32>],
+    _scenario: &Scenario,
+    message: usize,
+    group: usize,
+    targets: &mut Vec<Target>,
+) -> Result<(), AllocError>
+    requires known { message < length _scenario.now.multicasts }
+    requires addressed { GoesTo _scenario.now message group }
+    requires room { HasRoom (with_target _scenario.now message group) }
+    requires lawful { All (MayBeTarget _scenario.now) targets.old.items }
+    ensures value { OnOk result (targets.new.items ≡ targets.old.items ++ target_with deadlines.now message group ∷ []) }
+    ensures lawful { OnOk result (All (MayBeTarget _scenario.now) targets.new.items) }
+{
+    targets.push(target_with(deadlines, message, group))?;
     Ok(())
 }
 

@@ -1,7 +1,6 @@
 -- The scenarios of a plan have the same messages and the same target, wherever the groups are.
-use Rattle.std.proofs.Common.{◌≡◌, ℕ, ℤ, pos, int_le, suc, Bool, true, false, cond, List, [], ◌∷◌, ◌++◌, length, map, Option, Some, None, Result, Ok, Err, refl, sym, ap, ap₂, subst, ◌∙◌}
+use Rattle.std.proofs.Common.{◌≡◌, ℕ, ℤ, pos, int_le, suc, Bool, true, false, cond, List, [], ◌∷◌, ◌++◌, length, map, Option, Some, None, Result, Ok, refl, sym, ap, ap₂, subst, ◌∙◌}
 use Rattle.std.specs.Option.{is_some}
-use Rattle.std.specs.Result.{result_and}
 use Rattle.std.proofs.lemmas.List.{length-map}
 use Rattle.convoy_draft.specs.declared.fault.Key.TheVariants.{Delay, Least}
 use Rattle.convoy_draft.specs.declared.fault.ScenarioFault.{ScenarioFault}
@@ -12,6 +11,7 @@ use Rattle.convoy_scenario.specs.Numbering.{message_of, message_place, place, sc
 use Rattle.convoy_scenario.specs.Scenario.{Message, Scenario}
 use Rattle.convoy_scenario.specs.ScenarioLaws.{DraftsGiveScenarios}
 use Rattle.convoy_scenario.specs.WellFormed.{IsScenario}
+use Rattle.convoy_scenario.proofs.GivenScenarios.{passed}
 use Rattle.convoy_toml.specs.Links.{Bundle, links_of_bundles}
 use Rattle.convoy_toml.specs.Reading.{need_ranges}
 use Rattle.convoy_toml.specs.Shape.{WrittenMessage, WrittenScenario}
@@ -119,10 +119,6 @@ pub record IsMade (plan : Plan) (tick : ℕ) (scenario : Scenario) (messages : L
   pub target_message : scenario.target_message ≡ message_place plan.written.target_message messages
   pub target_group : scenario.target_group ≡ place plan.written.target_group (groups_in plan)
 
-and_ok : {A : Type 0} {B : Type 0} (r : Result B ScenarioFault) (x y : A) → result_and r (Ok x) ≡ Ok y → x ≡ y
-and_ok (Ok b) x y e = same_ok x y e
-and_ok (Err fault) x y e = absurd cc
-
 abbrev ranged : WrittenScenario → Draft → Scenario → Result Scenario ScenarioFault
 ranged w draft scenario = need_ranges (is_some w.least) draft >>= λ _. Ok scenario
 
@@ -147,7 +143,7 @@ module _ (plan : Plan) (placement : List ℕ) (scenario : Scenario) (made : scen
       let next = after_ok (tick_of w) (after_tick w) of_draft.0 of_draft.1 in
       let same : next.0 ≡ Some tick = same_ok next.0 (Some tick) (sym next.1 ∙ ticked) in
       let parts = drafted w (Some tick) of_draft.0 (subst (λ (t : Option ℕ). after_tick w t ≡ Ok of_draft.0) same next.2) in
-      let is = and_ok (judge (checks of_draft.0)) (scenario_of of_draft.0) scenario of_draft.2 in (
+      let is = (passed (judge (checks of_draft.0)) (scenario_of of_draft.0) scenario of_draft.2).1 in (
         parts.0,
         record {
           is = parts.1;

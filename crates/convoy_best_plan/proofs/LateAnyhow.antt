@@ -7,6 +7,8 @@ use Rattle.std.proofs.lemmas.Option.{same_Some}
 use Rattle.convoy_scenario.specs.declared.sender.Sender.{Sender}
 use Rattle.convoy_scenario.specs.declared.sender.Sender.TheVariants as senders
 use Rattle.convoy_scenario.specs.Numbering.{numbers_of}
+use Rattle.convoy_scenario.specs.Room.{HasRoom}
+use Rattle.convoy_scenario.specs.Targets.{with_target}
 use Rattle.convoy_scenario.specs.Scenario.{Message, Scenario, is_addressed, is_same_sender, message_at, no_message, range_between}
 use Rattle.convoy_scenario.specs.ScenarioLaws.{DraftsGiveScenarios, ScenariosHaveDrafts}
 use Rattle.convoy_draft.specs.Checks.{is_among}
@@ -131,7 +133,8 @@ may_too : (scenario other : Scenario) (target : Target) → Agree scenario other
 may_too scenario other target is may = record {
   known = subst (λ (ms : List Message). target.message < length ms) (sym is.multicasts) may.known;
   addressed = subst (λ (ms : List Message). is_addressed (get_or ms target.message no_message) target.group ≡ true) (sym is.multicasts) may.addressed;
-  fixed = subst (λ (ms : List Message). (get_or ms target.message no_message).longest_wait ≡ 0) (sym is.multicasts) may.fixed;
+  room = subst (λ (ms : List Message). HasRoom (record (with_target other target.message target.group) { multicasts = ms })) (sym is.multicasts)
+      (record { last = may.room.last; others = may.room.others });
 }
 
 -- what a lesser latency exceeds a greater one exceeds too

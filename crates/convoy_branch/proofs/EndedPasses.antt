@@ -7,7 +7,6 @@ use Rattle.convoy_certificate.specs.Certificate.{Certificate}
 use Rattle.convoy_sim.specs.Record.{Record}
 use Rattle.convoy_branch.specs.declared.bounds.Bounds.{Bounds}
 use Rattle.convoy_branch.specs.declared.limit.Limit.{Limit}
-use Rattle.convoy_branch.specs.declared.outcome.Outcome.{Outcome}
 use Rattle.convoy_branch.specs.declared.outcome.Outcome.TheVariants.{Proved, Open}
 use Rattle.convoy_branch.specs.Limits.{IsOutcomeWithin}
 use Rattle.convoy_branch.specs.Outcomes.{IsOpen, IsProved}

@@ -12,7 +12,7 @@ use Rattle.convoy_branch.specs.declared.bounds.Bounds.TheVariants as bounds_of
 use Rattle.convoy_scenario.specs.WellFormed.{IsScenario}
 use Rattle.convoy_certificate.specs.declared.node.Node.TheVariants.{Bound, Stamp, Lead}
 use Rattle.convoy_sim.specs.Times.{greatest}
-use Rattle.convoy_narrowing.specs.Narrowing.{closes_region}
+use Rattle.convoy_origin.specs.FromOrigin.{closes_from_origin, plain_from_origin, stamp_from_origin}
 use Rattle.convoy_regions.specs.Regions.{Region, root_region}
 use Rattle.convoy_checker.specs.TreeLaws.{TreesCover}
 use Rattle.convoy_sim.specs.Greatest.{IsUpper}
@@ -40,14 +40,14 @@ each_le bound start (region ∷ regions) =
 
 -- ---- Each region that is left has a leaf
 
-leaf_in : (plan : Scenario) (upper : ℕ) (region : Region) (time : Time) → plan.time ≡ time → bound_in time plan region.ranges ≤ upper → HasLeaf plan upper region
+leaf_in : (plan : Scenario) (upper : ℕ) (region : Region) (time : Time) → plan.time ≡ time → bound_in time (stamp_from_origin plan region.ranges) (plain_from_origin plan region.ranges) ≤ upper → HasLeaf plan upper region
 leaf_in plan upper region Ticks is within = record { leaf = Stamp; last = refl; right = (is, within) }
 leaf_in plan upper region Real is within = record { leaf = Bound; last = refl; right = within }
 
 leaf_within : (plan : Scenario) (upper : ℕ) (region : Region) → least_over plan region ≤ upper → HasLeaf plan upper region
 leaf_within plan upper region within = leaf_in plan upper region plan.time refl within
 
-leaf_of_closed : (plan : Scenario) (upper latency : ℕ) (region : Region) (stamps : Bool) → latency ≤ upper → nat_le (least_over plan region) latency ≡ stamps → (stamps || closes_region plan region latency) ≡ true → HasLeaf plan upper region
+leaf_of_closed : (plan : Scenario) (upper latency : ℕ) (region : Region) (stamps : Bool) → latency ≤ upper → nat_le (least_over plan region) latency ≡ stamps → (stamps || closes_from_origin plan region latency) ≡ true → HasLeaf plan upper region
 leaf_of_closed plan upper latency region true few is closes =
     let within : least_over plan region ≤ latency = grind (arith, nat_tests, is) in
     leaf_within plan upper region (omega (arith, within, few))

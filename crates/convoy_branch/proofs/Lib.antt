@@ -1,4 +1,6 @@
 pub mod Aims
+pub mod Lengths
+pub mod Origins
 pub mod RegionTests
 pub mod Tries
 pub mod FrontTrees

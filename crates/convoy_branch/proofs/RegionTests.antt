@@ -14,7 +14,7 @@ use Rattle.convoy_leads.specs.declared.shown.Shown.{Shown}
 use Rattle.convoy_regions.specs.Regions.{Region}
 use Rattle.convoy_regions.specs.Stages.{Precedence}
 use Rattle.convoy_narrowing.specs.Narrowing.{closes_narrowed, closes_region, narrowed, narrowed_over}
-use Rattle.convoy_branch.specs.Asked.{IsLeftOpen}
+use Rattle.convoy_branch.specs.FromIssue.{IsLeftFromIssue}
 use Rattle.convoy_branch.specs.declared.asked.Asked.{Asked}
 
 -- ---- A region without precedences
@@ -71,7 +71,7 @@ leaf_by_none plan region latency asked none stays is =
     is ∙ sym (ap (λ (b : Bool). lead_leaf b latency) (open_by_none plan region latency none stays))
 
 -- what is left open of its box is left open of the region, if it has no precedence
-pub left_by_none : (plan : Scenario) (region : Region) (box : Box) (test : Tested) (asked : Asked) → region.before ≡ [] → test ≡ record { scenario = plan; windows = windows_of plan box } → box ≡ region.ranges → IfSome asked.left (λ left. (left.value.test ≡ test) × IfSome left.value.opening (IsOpening test.scenario)) → IfSome asked.left (λ left. IsLeftOpen plan region left.value)
+pub left_by_none : (plan : Scenario) (region : Region) (box : Box) (test : Tested) (asked : Asked) → region.before ≡ [] → test ≡ record { scenario = plan; windows = windows_of plan box } → box ≡ region.ranges → IfSome asked.left (λ left. (left.value.test ≡ test) × IfSome left.value.opening (IsOpening test.scenario)) → IfSome asked.left (λ left. IsLeftFromIssue plan region left.value)
 left_by_none plan region box test asked none of_box same is =
     let over : Windows → Tested = λ windows. record { scenario = plan; windows = windows } in
     let of_region : test ≡ over (narrowed plan region) = of_box ∙ ap over (ap (λ (b : Box). windows_of plan b) same ∙ sym (narrowed_by_none plan region none)) in

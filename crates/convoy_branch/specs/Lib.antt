@@ -14,6 +14,9 @@ pub use Rattle.convoy_stamps.specs.StampBounds
 pub use Rattle.convoy_leads.specs.Closing
 pub use Rattle.convoy_narrowing.specs.Narrowing
 pub use Rattle.convoy_leads.specs.Openings
+pub use Rattle.convoy_origin.specs.Widened
+pub use Rattle.convoy_origin.specs.WidenedRegions
+pub use Rattle.convoy_origin.specs.FromOrigin
 pub use Rattle.convoy_certificate.specs.Certificate
 pub use Rattle.convoy_certificate.specs.Text
 pub use Rattle.convoy_checker.specs.Trees
@@ -31,6 +34,7 @@ pub mod Passes
 pub mod BothWays
 pub mod FrontLaws
 -- Where the program stands between two steps: no promise above this crate rests on it.
+pub mod FromIssue
 pub mod Asked
 pub mod Looks
 pub mod Searching

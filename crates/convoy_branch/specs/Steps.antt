@@ -6,12 +6,12 @@ use Rattle.convoy_sim.specs.Record.{Record, attained_by}
 use Rattle.convoy_certificate.specs.Certificate.{IsNode}
 use Rattle.convoy_certificate.specs.declared.node.Node.{Node}
 use Rattle.convoy_certificate.specs.declared.node.Node.TheVariants as nodes
-use Rattle.convoy_intervals.specs.Bounds.{plain_bound}
 use Rattle.convoy_intervals.specs.Boxes.{CanSplit}
 use Rattle.convoy_regions.specs.Branches.{Branch}
 use Rattle.convoy_regions.specs.Regions.{Region, can_order, is_decided, run_of}
 use Rattle.convoy_checker.specs.Leaves.{ClosesByBound, ClosesByLeads, ClosesByStamps}
 use Rattle.convoy_checker.specs.Trees.{regions_below}
+use Rattle.convoy_origin.specs.FromOrigin.{plain_from_origin}
 use Rattle.convoy_branch.specs.declared.bounds.Bounds.{Bounds}
 use Rattle.convoy_branch.specs.declared.bounds.Bounds.TheVariants as bounds_of
 use Rattle.convoy_branch.specs.declared.step.Step.{Step}
@@ -54,7 +54,7 @@ pub record StaysOpen (bounds : Bounds) (scenario : Scenario) (region : Region) (
 -- the search asks for stamp bounds, and that of the region closes it where the plain bound does not
 pub record NeedsStamps (bounds : Bounds) (scenario : Scenario) (region : Region) (known : ℕ) : Type 0 where
   pub asked : bounds ≢ bounds_of.Plain
-  pub plain : known < plain_bound scenario region.ranges
+  pub plain : known < plain_from_origin scenario region.ranges
   pub stamps : ClosesByStamps scenario known region
 
 -- the search goes by leads, which close the region where its bound does not; a node may name the latency

@@ -1,17 +1,17 @@
 -- The upper bound of all latencies that a search tells where regions are left.
-use Rattle.std.specs.Prelude.{◌≡◌, ℕ, ◌≤◌, max, IsTrue, List, ◌∷◌, map}
+use Rattle.std.specs.Prelude.{◌≡◌, ℕ, ◌≤◌, nat_le, max, Bool, ◌||◌, IsTrue, List, ◌∷◌, map}
 use Rattle.std.specs.List.{All}
 use Rattle.convoy_scenario.specs.Scenario.{Scenario}
 use Rattle.convoy_sim.specs.Times.{greatest}
-use Rattle.convoy_intervals.specs.Bounds.{plain_bound}
 use Rattle.convoy_regions.specs.Regions.{Region}
+use Rattle.convoy_origin.specs.FromOrigin.{closes_from_origin, plain_from_origin}
 use Rattle.convoy_branch.specs.declared.bounds.Bounds.{Bounds}
 use Rattle.convoy_branch.specs.declared.bounds.Bounds.TheVariants.{Plain, Stamp, Lead}
 use Rattle.convoy_branch.specs.SearchBounds.{closes_for, least_bound}
 
 -- the plain bound of a region's ranges, and that of a search that asks for stamp bounds
 abbrev pub plain_over : Scenario → Region → ℕ
-plain_over scenario region = plain_bound scenario region.ranges
+plain_over scenario region = plain_from_origin scenario region.ranges
 
 abbrev pub least_over : Scenario → Region → ℕ
 least_over scenario region = least_bound scenario region.ranges
@@ -34,14 +34,19 @@ IsUpperOf Plain scenario best regions upper = upper ≡ greatest (best ∷ map (
 IsUpperOf Stamp scenario best regions upper = upper ≡ greatest (best ∷ map (least_over scenario) regions)
 IsUpperOf Lead scenario best regions upper = IsUpperByLeads scenario best regions upper
 
--- a search by leads closes the region for what an upper bound is raised to, which is no greater than by the bound
-pub record IsRaisedByLeads (scenario : Scenario) (region : Region) (upper raised : ℕ) : Type 0 where
+-- a search by leads closes a region for what an upper bound is raised to, which is no greater than by the least bound of its ranges
+pub record IsRaisedByLeads (least : ℕ) (leads : ℕ → Bool) (upper raised : ℕ) : Type 0 where
   pub above : upper ≤ raised
-  pub closes : IsTrue (closes_for Lead scenario region raised)
-  pub within : raised ≤ max upper (least_over scenario region)
+  pub closes : IsTrue (nat_le least raised || leads raised)
+  pub within : raised ≤ max upper least
+
+-- what an upper bound is raised to where a region is left too: by its plain bound, by the least bound that a search asks for, or by the latencies for which leads close it
+abbrev pub IsRaisedBy : Bounds → ℕ → ℕ → (ℕ → Bool) → ℕ → ℕ → Type 0
+IsRaisedBy Plain plain least leads upper raised = raised ≡ max upper plain
+IsRaisedBy Stamp plain least leads upper raised = raised ≡ max upper least
+IsRaisedBy Lead plain least leads upper raised = IsRaisedByLeads least leads upper raised
 
 -- what an upper bound is raised to where that region is left too
 abbrev pub IsRaised : Bounds → Scenario → Region → ℕ → ℕ → Type 0
-IsRaised Plain scenario region upper raised = raised ≡ max upper (plain_over scenario region)
-IsRaised Stamp scenario region upper raised = raised ≡ max upper (least_over scenario region)
-IsRaised Lead scenario region upper raised = IsRaisedByLeads scenario region upper raised
+IsRaised bounds scenario region upper raised =
+    IsRaisedBy bounds (plain_over scenario region) (least_over scenario region) (λ latency. closes_from_origin scenario region latency) upper raised

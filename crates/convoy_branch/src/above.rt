@@ -12,6 +12,7 @@ use super::limit::Limit;
 use super::ordering::order_to_split;
 use super::splits::Splits;
 use super::step::{place_to_split, wished};
+use convoy_origin::Origin;
 use convoy_packets::Instance;
 use convoy_regions::Branch;
 use convoy_scenario::Time;
@@ -102,7 +103,8 @@ pub fn root_from_above<G: Gate>(
     ensures of_scenario { IfOk result (λ found. found.best.scenario ≡ instance.now) }
     ensures no_lower { IfOk result (λ found. known.latency ≤ found.best.latency) }
 {
-    let mut above = Above::of(alloc, instance, known);
+    let origin = Origin::of(alloc, instance)?;
+    let mut above = Above::of(alloc, &origin, known);
     let root = Branch::root(alloc, instance)?;
     let bound = above.approach(&root, limit, gate)?;
     Ok(FromAbove {
@@ -113,7 +115,7 @@ pub fn root_from_above<G: Gate>(
 
 /// The same below the root, where a bound in ticks is known for which leads close it: boxes are split as in a search
 /// by leads that closes them for a latency just below that. Each box that is open has its wish runs simulated. Several
-/// trees are tried, each with few boxes and then again with many; in real time boxes of some are split by orders, too.
+/// trees are tried, each with a number of boxes of its own; in real time boxes of some are split by orders, too.
 pub fn split_from_above<G: Gate>(
     alloc: Global,
     instance: &Instance,
@@ -126,10 +128,11 @@ pub fn split_from_above<G: Gate>(
     ensures of_scenario { IfOk result (λ found. found.best.scenario ≡ instance.now) }
     ensures no_lower { IfOk result (λ found. known.latency ≤ found.best.latency) }
 {
+    let origin = Origin::of(alloc, instance)?;
     let mut found = FromAbove { best: known, bound };
     for descent in Descent::all() {
         if descent.is_for(instance.time()) {
-            found = descend(alloc, instance, found, descent, limit, gate)?;
+            found = descend(alloc, &origin, found, descent, limit, gate)?;
         }
     }
     Ok(found)
@@ -138,21 +141,21 @@ pub fn split_from_above<G: Gate>(
 /// The same by trees that go down so.
 fn descend<G: Gate>(
     alloc: Global,
-    instance: &Instance,
+    origin: &Origin,
     found: FromAbove,
     descent: Descent,
     limit: Limit,
     gate: &G,
 ) -> Result<FromAbove, AllocError>
-    requires of_scenario { found.best.scenario ≡ instance.now }
-    ensures of_scenario { IfOk result (λ after. after.best.scenario ≡ instance.now) }
+    requires of_scenario { found.best.scenario ≡ origin.now }
+    ensures of_scenario { IfOk result (λ after. after.best.scenario ≡ origin.now) }
     ensures no_lower { IfOk result (λ after. found.best.latency ≤ after.best.latency) }
 {
     let mut bound = found.bound;
     let mut above = Above {
         descent,
         boxes: descent.boxes,
-        ..Above::of(alloc, instance, found.best)
+        ..Above::of(alloc, origin, found.best)
     };
     let mut below = 1;
     for _ in 0..MOST_AIMS {
@@ -189,7 +192,7 @@ enum Aimed {
 #[derive(Drop)]
 struct Above<'a> {
     alloc: Global,
-    instance: &'a Instance,
+    origin: &'a Origin<'a>,
     /// The record of the greatest latency that was seen.
     best: Record,
     /// How many boxes may still be taken up.
@@ -200,13 +203,13 @@ struct Above<'a> {
 
 impl<'a> Above<'a> {
     /// Where seeking from above starts from a record.
-    fn of(alloc: Global, instance: &'a Instance, known: Record) -> Above<'a>
+    fn of(alloc: Global, origin: &'a Origin<'a>, known: Record) -> Above<'a>
         ensures best { result.best ≡ known }
-        ensures instance { result.instance.now ≡ instance.now }
+        ensures origin { result.origin.now ≡ origin.now }
     {
         Above {
             alloc,
-            instance,
+            origin,
             best: known,
             boxes: 0,
             descent: Descent::by_packets(false, 0),
@@ -225,10 +228,11 @@ impl<'a> Above<'a> {
         gate: &G,
     ) -> Result<u32, AllocError>
         requires above { IsAbove self.old }
-        requires root { root.now.scenario ≡ self.old.instance.now }
+        requires root { root.now.scenario ≡ self.old.origin.now }
         ensures { OnOk result (HasRisen self.old self.new) }
     {
-        let (mut low, mut bound) = (self.best.latency(), root.tracked().bound());
+        let mut low = self.best.latency();
+        let mut bound = Bounds::Plain.raised(self.alloc, self.origin, root, low)?;
         let mut below = 1;
         let mut was_open = false;
         for _ in 0..MOST_TESTS {
@@ -254,15 +258,15 @@ impl<'a> Above<'a> {
     /// Whether leads close the root for a latency in ticks; where they do not, its wish runs are simulated.
     fn ask(&mut self, root: &Branch, aim: u32) -> Result<bool, AllocError>
         requires above { IsAbove self.old }
-        requires root { root.now.scenario ≡ self.old.instance.now }
+        requires root { root.now.scenario ≡ self.old.origin.now }
         ensures { OnOk result (HasRisen self.old self.new) }
     {
-        let asked = Bounds::Lead.ask(self.alloc, self.instance, root, aim)?;
+        let asked = Bounds::Lead.ask(self.alloc, self.origin, root, aim)?;
         if asked.leaf.is_some() {
             return Ok(true);
         }
         let known = self.best.latency();
-        if let Some(found) = wished(self.alloc, self.instance, root, &asked, known)? {
+        if let Some(found) = wished(self.alloc, self.origin, root, &asked, known)? {
             self.best = found;
         }
         Ok(false)
@@ -274,7 +278,7 @@ impl<'a> Above<'a> {
         ensures { OnOk result (HasRisen self.old self.new) }
     {
         let mut work = Vec::new(self.alloc);
-        work.push(Branch::root(self.alloc, self.instance)?)?;
+        work.push(Branch::root(self.alloc, self.origin.instance())?)?;
         for _ in 0..self.boxes {
             let Some(branch) = work.pop() else {
                 return Ok(Aimed::Closed);
@@ -302,23 +306,23 @@ impl<'a> Above<'a> {
         aim: u32,
     ) -> Result<bool, AllocError>
         requires above { IsAbove self.old }
-        requires branch { branch.scenario ≡ self.old.instance.now }
-        requires work { All (λ left. left.scenario ≡ self.old.instance.now) work.old.items }
+        requires branch { branch.scenario ≡ self.old.origin.now }
+        requires work { All (λ left. left.scenario ≡ self.old.origin.now) work.old.items }
         ensures risen { OnOk result (HasRisen self.old self.new) }
-        ensures work { OnOk result (All (λ left. left.scenario ≡ self.old.instance.now) work.new.items) }
+        ensures work { OnOk result (All (λ left. left.scenario ≡ self.old.origin.now) work.new.items) }
     {
-        let (alloc, instance) = (self.alloc, self.instance);
-        let asked = Bounds::Lead.ask(alloc, instance, &branch, aim)?;
+        let (alloc, origin) = (self.alloc, self.origin);
+        let asked = Bounds::Lead.ask(alloc, origin, &branch, aim)?;
         if asked.leaf.is_some() {
             return Ok(true);
         }
         let known = self.best.latency();
-        if let Some(found) = wished(alloc, instance, &branch, &asked, known)? {
+        if let Some(found) = wished(alloc, origin, &branch, &asked, known)? {
             self.best = found;
         }
-        let halves = next_halves(alloc, instance, branch, aim, self.descent, asked.left)?;
+        let halves = next_halves(alloc, origin, branch, aim, self.descent, asked.left)?;
         let Some((first, second)) = halves else {
-            return Ok(matches!(instance.time(), Time::Ticks));
+            return Ok(matches!(origin.instance().time(), Time::Ticks));
         };
         work.push(first)?;
         work.push(second)?;
@@ -330,18 +334,18 @@ impl<'a> Above<'a> {
 /// None where it has neither. The error is that memory ran out.
 fn next_halves(
     alloc: Global,
-    instance: &Instance,
+    origin: &Origin,
     branch: Branch,
     latency: u32,
     descent: Descent,
     left: Option<Box<LeftOpen>>,
 ) -> Result<Option<(Branch, Branch)>, AllocError>
-    requires of_scenario { branch.scenario ≡ instance.now }
-    requires left { IfSome left (λ left. IsLeftOpen instance.now branch.region left.value) }
+    requires of_scenario { branch.scenario ≡ origin.now }
+    requires left { IfSome left (λ left. IsLeftOpen origin.now branch.region left.value) }
     ensures { IfOk result (λ found. IfSome found (λ halves.
-        (halves.0.scenario ≡ instance.now) × (halves.1.scenario ≡ instance.now))) }
+        (halves.0.scenario ≡ origin.now) × (halves.1.scenario ≡ origin.now))) }
 {
-    let halves = halves_of(alloc, instance, branch, latency, descent.splits, left)?;
+    let halves = halves_of(alloc, origin, branch, latency, descent.splits, left)?;
     match halves {
         Some((first, second)) if descent.first_half_first => Ok(Some((second, first))),
         _ => Ok(halves),
@@ -354,17 +358,18 @@ fn next_halves(
 #[tactic(auto, using(crate::proofs::Aims::both_of))]
 fn halves_of(
     alloc: Global,
-    instance: &Instance,
+    origin: &Origin,
     branch: Branch,
     latency: u32,
     splits: Splits,
     left: Option<Box<LeftOpen>>,
 ) -> Result<Option<(Branch, Branch)>, AllocError>
-    requires of_scenario { branch.scenario ≡ instance.now }
-    requires left { IfSome left (λ left. IsLeftOpen instance.now branch.region left.value) }
+    requires of_scenario { branch.scenario ≡ origin.now }
+    requires left { IfSome left (λ left. IsLeftOpen origin.now branch.region left.value) }
     ensures { IfOk result (λ found. IfSome found (λ halves.
-        (halves.0.scenario ≡ instance.now) × (halves.1.scenario ≡ instance.now))) }
+        (halves.0.scenario ≡ origin.now) × (halves.1.scenario ≡ origin.now))) }
 {
+    let instance = origin.instance();
     if matches!(instance.time(), Time::Real)
         && (splits == Splits::Orders || branch.is_point())
         && let Some((first, second)) = order_to_split(alloc, instance, &branch, &left)?
@@ -375,7 +380,7 @@ fn halves_of(
         };
     }
     let rival_first = splits == Splits::Packets;
-    let place = place_to_split(alloc, instance, &branch, latency, left, rival_first)?;
+    let place = place_to_split(alloc, origin, &branch, latency, left, rival_first)?;
     let Some((packet, at)) = place else {
         return Ok(None);
     };

@@ -19,6 +19,7 @@ pub use ways::{AfterPlain, PLAIN_TICKETS, after_plain, lead_share, plain_share, 
 mod above;
 mod asked;
 mod bounds;
+mod from_issue;
 pub mod front_laws;
 mod gate;
 mod limit;
@@ -30,6 +31,7 @@ mod placing;
 mod search;
 mod splits;
 mod step;
+mod told_back;
 mod want;
 mod wants;
 mod ways;

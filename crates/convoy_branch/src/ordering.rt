@@ -1,9 +1,7 @@
 //! By the order of which two moments a region is split.
 
 ghost use Rattle.std.specs.Prelude.{◌≡◌, IfOk, IfSome, IsTrue};
-ghost use Rattle.convoy_leads.specs.Openings.{IsOpening};
 ghost use Rattle.convoy_regions.specs.Regions.{can_order};
-ghost use Rattle.convoy_branch.specs.Asked.{IsLeftOpen};
 
 use super::asked::LeftOpen;
 use convoy_leads::{Link, Opening};
@@ -16,7 +14,8 @@ use std::alloc::{AllocError, Global};
 
 /// By the order of which two stages, by their numbers, a region that is open in real time is to be split: by what
 /// leads leave open of it, where it is a half by a delay or each packet has one delay left. None where it is to be
-/// split at a packet. The error is that memory ran out.
+/// split at a packet. Stages have the same numbers in the widened scenario, of which leads speak. The error is that
+/// memory ran out.
 pub(crate) fn order_to_split(
     alloc: Global,
     instance: &Instance,
@@ -24,7 +23,6 @@ pub(crate) fn order_to_split(
     left: &Option<Box<LeftOpen>>,
 ) -> Result<Option<(usize, usize)>, AllocError>
     requires of_scenario { branch.now.scenario ≡ instance.now }
-    requires left { IfSome left.now (λ left. IsLeftOpen instance.now branch.now.region left.value) }
     ensures { IfOk result (λ found. IfSome found
         (λ order. IsTrue (can_order instance.now branch.now.region order.0 order.1))) }
 {
@@ -52,7 +50,6 @@ fn order_by_leads(
     opening: &Opening,
 ) -> Result<Option<(usize, usize)>, AllocError>
     requires of_scenario { branch.now.scenario ≡ instance.now }
-    requires open_region { IsOpening instance.now opening.now }
     ensures { IfOk result (λ found. IfSome found
         (λ order. IsTrue (can_order instance.now branch.now.region order.0 order.1))) }
 {

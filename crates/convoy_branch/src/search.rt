@@ -1,7 +1,6 @@
 ghost use Rattle.std.specs.Prelude.{◌≡◌, ℕ, ◌+◌, ◌<◌, ◌≤◌, [], ◌∷◌, ◌++◌, map};
 ghost use Rattle.std.specs.Prelude.{IfOk, OnOk, unwrap_or};
 ghost use Rattle.std.specs.List.{All};
-ghost use Rattle.convoy_scenario.specs.WellFormed.{IsScenario};
 ghost use Rattle.convoy_packets.specs.Assignment.{ranges_of};
 ghost use Rattle.convoy_packets.specs.Table.{IsTable, least_of, table_of};
 ghost use Rattle.convoy_sim.specs.Delivery.{latency_of};
@@ -22,6 +21,7 @@ use super::splits::Splits;
 use super::step::{Turn, step_branch};
 use convoy_certificate::{Certificate, Node};
 use convoy_checker::tree_laws::trees_cover;
+use convoy_origin::Origin;
 use convoy_packets::schedule_laws::fixed_order_is_order;
 use convoy_packets::{Instance, Schedule};
 use convoy_regions::Branch;
@@ -70,20 +70,39 @@ pub fn search_alone_from<G: Gate>(
         IsWithin limit (λ tickets. IsOutcome bounds instance.now 1 tickets outcome)) }
     ensures opened { IfOk result (λ outcome. opening.latency ≤ best_of outcome) }
 {
-    let mut search = Search::start(alloc, instance, opening)?;
+    let origin = Origin::of(alloc, instance)?;
+    search_over(alloc, &origin, opening, limit, bounds, gate)
+}
+
+/// The same, where bounds are asked of that instance.
+fn search_over<G: Gate>(
+    alloc: Global,
+    origin: &Origin,
+    opening: Record,
+    limit: Limit,
+    bounds: Bounds,
+    gate: &G,
+) -> Result<Outcome, AllocError>
+    requires of_scenario { opening.scenario ≡ origin.now }
+    requires least { latency_of origin.now (least_of (ranges_of origin.now)) ≤ opening.latency }
+    ensures value { IfOk result (λ outcome.
+        IsWithin limit (λ tickets. IsOutcome bounds origin.now 1 tickets outcome)) }
+    ensures opened { IfOk result (λ outcome. opening.latency ≤ best_of outcome) }
+{
+    let mut search = Search::start(alloc, origin, opening)?;
     while let Some(work) = search.work.pop() {
         match work {
             Work::Write(node) => search.nodes.push(node)?,
             Work::Branch { branch, tried } if limit.allows(search.tickets, gate) => {
                 gate.before_branch(0, search.tickets + 1);
-                search.take_up(alloc, instance, branch, tried, bounds, limit.splits)?;
+                search.take_up(alloc, origin, branch, tried, bounds, limit.splits)?;
             }
             Work::Branch { branch, tried } => {
-                return search.into_open(alloc, instance, branch, tried, bounds);
+                return search.into_open(alloc, origin, branch, tried, bounds);
             }
         }
     }
-    search.into_proved(alloc, instance, bounds)
+    search.into_proved(alloc, origin, bounds)
 }
 
 /// What a search has still to do.
@@ -111,16 +130,17 @@ struct Search {
 
 impl Search {
     /// A search of the root from an opening record.
-    fn start(alloc: Global, instance: &Instance, opening: Record) -> Result<Search, AllocError>
-        requires of_scenario { opening.scenario ≡ instance.now }
-        requires least { latency_of instance.now (least_of (ranges_of instance.now))
+    fn start(alloc: Global, origin: &Origin, opening: Record) -> Result<Search, AllocError>
+        requires of_scenario { opening.scenario ≡ origin.now }
+        requires least { latency_of origin.now (least_of (ranges_of origin.now))
             ≤ opening.latency }
         ensures searching { (bounds : Bounds) → IfOk result
-            (λ s. IsSearching bounds instance.now s.best s.work.items s.nodes.items s.tickets) }
+            (λ s. IsSearching bounds origin.now s.best s.work.items s.nodes.items s.tickets) }
         ensures best { IfOk result (λ s. s.best ≡ opening) }
         ensures tickets { IfOk result (λ s. s.tickets ≡ 0) }
-        ensures lawful { IfOk result (λ _. IsTable (table_of instance.now)) }
+        ensures lawful { IfOk result (λ _. IsTable (table_of origin.now)) }
     {
+        let instance = origin.instance();
         let mut work = Vec::with_capacity(alloc, instance.table().len())?;
         work.push(Work::Branch {
             branch: Branch::root(alloc, instance)?,
@@ -138,23 +158,23 @@ impl Search {
     fn take_up(
         &mut self,
         alloc: Global,
-        instance: &Instance,
+        origin: &Origin,
         branch: Branch,
         tried: bool,
         bounds: Bounds,
         splits: Splits,
     ) -> Result<(), AllocError>
-        requires lawful { IsTable (table_of instance.now) }
-        requires searching { IsSearching bounds instance.now self.old.best
+        requires lawful { IsTable (table_of origin.now) }
+        requires searching { IsSearching bounds origin.now self.old.best
             (self.old.work.items ++ Work.Branch branch tried ∷ []) self.old.nodes.items
             self.old.tickets }
         requires ticket { self.old.tickets < u64.MAX }
-        ensures turned { OnOk result (HasTurned bounds instance.now self.old self.new) }
+        ensures turned { OnOk result (HasTurned bounds origin.now self.old self.new) }
         ensures best { OnOk result (self.old.best.latency ≤ self.new.best.latency) }
     {
         halves_are_regions();
         let seen = self.best.latency();
-        let step = match step_branch(alloc, instance, branch, tried, seen, bounds, splits) {
+        let step = match step_branch(alloc, origin, branch, tried, seen, bounds, splits) {
             Ok(step) => step,
             Err((_, error)) => return Err(error),
         };
@@ -206,16 +226,16 @@ impl Search {
     fn into_proved(
         self,
         alloc: Global,
-        instance: &Instance,
+        origin: &Origin,
         bounds: Bounds,
     ) -> Result<Outcome, AllocError>
-        requires { IsSearching bounds instance.now self.best [] self.nodes.items self.tickets }
+        requires { IsSearching bounds origin.now self.best [] self.nodes.items self.tickets }
         ensures value { (limit : ℕ) → self.tickets ≤ limit
-            → IfOk result (λ outcome. IsOutcome bounds instance.now 1 limit outcome) }
+            → IfOk result (λ outcome. IsOutcome bounds origin.now 1 limit outcome) }
         ensures best { IfOk result (λ outcome. best_of outcome ≡ self.best.latency) }
     {
         trees_cover();
-        is_scenario(instance);
+        let instance = origin.instance();
         let mut nodes = self.nodes;
         nodes.reverse();
         let latency = self.best.latency();
@@ -231,21 +251,21 @@ impl Search {
     fn into_open(
         mut self,
         alloc: Global,
-        instance: &Instance,
+        origin: &Origin,
         branch: Branch,
         tried: bool,
         bounds: Bounds,
     ) -> Result<Outcome, AllocError>
-        requires searching { IsSearching bounds instance.now self.best
+        requires searching { IsSearching bounds origin.now self.best
             (self.work.items ++ Work.Branch branch tried ∷ []) self.nodes.items self.tickets }
-        ensures value { IfOk result (λ outcome. IsOutcome bounds instance.now 1 self.tickets outcome) }
+        ensures value { IfOk result (λ outcome. IsOutcome bounds origin.now 1 self.tickets outcome) }
         ensures best { IfOk result (λ outcome. best_of outcome ≡ self.best.latency) }
     {
         fronts_bound();
-        is_scenario(instance);
+        let _instance = origin.instance();
         self.work.push(Work::Branch { branch, tried })?;
         let seen = self.best.latency();
-        let upper = upper_of(alloc, instance, &self.work, seen, bounds)?;
+        let upper = upper_of(alloc, origin, &self.work, seen, bounds)?;
         Ok(Outcome::Open {
             best: self.best,
             upper,
@@ -255,31 +275,24 @@ impl Search {
     }
 }
 
-/// What every scenario keeps, for the proofs of its callers.
-fn is_scenario(instance: &Instance)
-    ensures { IsScenario instance.now }
-{
-    let _ = instance.delay();
-}
-
 /// The upper bound of all latencies, in ticks, where that is the best one and the regions of the work are
 /// left.
 fn upper_of(
     alloc: Global,
-    instance: &Instance,
+    origin: &Origin,
     work: &[Work],
     seen: u32,
     bounds: Bounds,
 ) -> Result<u32, AllocError>
-    requires work { All (IsWork instance.now seen) work.now }
-    ensures value { IfOk result (λ upper. IsUpperOf bounds instance.now seen
+    requires work { All (IsWork origin.now seen) work.now }
+    ensures value { IfOk result (λ upper. IsUpperOf bounds origin.now seen
         (left_in (map front_of work.now)) upper) }
 {
     uppers_begin();
     uppers_raised();
     let mut upper = seen;
     for piece in work {
-        upper = raised_over(alloc, instance, piece, upper, bounds)?;
+        upper = raised_over(alloc, origin, piece, upper, bounds)?;
     }
     Ok(upper)
 }
@@ -287,17 +300,17 @@ fn upper_of(
 /// What a piece of work raises an upper bound to, in ticks: a region that is left, and nothing else.
 fn raised_over(
     alloc: Global,
-    instance: &Instance,
+    origin: &Origin,
     piece: &Work,
     upper: u32,
     bounds: Bounds,
 ) -> Result<u32, AllocError>
-    requires work { (seen : ℕ) × IsWork instance.now seen piece.now }
+    requires work { (seen : ℕ) × IsWork origin.now seen piece.now }
     ensures { IfOk result
-        (λ raised. IsRaisedOver bounds instance.now piece.now upper raised) }
+        (λ raised. IsRaisedOver bounds origin.now piece.now upper raised) }
 {
     match piece {
-        Work::Branch { branch, .. } => bounds.raised(alloc, instance, branch, upper),
+        Work::Branch { branch, .. } => bounds.raised(alloc, origin, branch, upper),
         Work::Write(_) => Ok(upper),
     }
 }

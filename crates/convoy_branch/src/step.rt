@@ -12,19 +12,21 @@ ghost use Rattle.convoy_branch.specs.Steps.{IsBetter, IsStep, IsTriedIf, IsTurn,
 ghost use Rattle.convoy_branch.specs.Looks.{IsLook, IsLookAtRun};
 
 use super::asked::{Asked, LeftOpen};
-use super::bounds::Bounds;
+use super::bounds::{Bounds, is_its_own};
 use super::ordering::order_to_split;
 use super::placing::place_by_leads;
 use super::splits::Splits;
+use super::told_back::wish_told_back;
 use convoy_certificate::Node;
 use convoy_intervals::DelayBox;
 use convoy_intervals::box_laws::{tests_decide, upper_keeps_greatest};
+use convoy_origin::Origin;
+use convoy_origin::from_origin_laws::stamp_at_most_plain_from_origin;
 use convoy_packets::{Instance, PacketTable};
 use convoy_regions::Branch;
 use convoy_regions::region_laws::stages_are_few;
 use convoy_scenario::Time;
 use convoy_sim::Record;
-use convoy_stamps::stamp_bound_laws::stamp_bound_at_most_plain;
 use convoy_wishes::wish;
 use std::alloc::{AllocError, Global};
 
@@ -65,20 +67,20 @@ pub enum Turn {
 /// order of two moments (docs/PROTOCOL.md). Where memory runs out the region comes back as it was.
 pub fn step_branch(
     alloc: Global,
-    instance: &Instance,
+    origin: &Origin,
     branch: Branch,
     tried: bool,
     seen: u32,
     bounds: Bounds,
     splits: Splits,
 ) -> Result<Step, (Branch, AllocError)>
-    requires of_scenario { branch.scenario ≡ instance.now }
-    requires known { IsTriedIf instance.now branch.region tried seen }
-    ensures value { IfOk result (λ step. IsStep bounds instance.now branch.region seen step) }
+    requires of_scenario { branch.scenario ≡ origin.now }
+    requires known { IsTriedIf origin.now branch.region tried seen }
+    ensures value { IfOk result (λ step. IsStep bounds origin.now branch.region seen step) }
     ensures back { IfErr result (λ refused. refused.0 ≡ branch) }
 {
-    stamp_bound_at_most_plain();
-    let look = match look_at(alloc, instance, &branch, tried, seen, bounds) {
+    stamp_at_most_plain_from_origin();
+    let look = match look_at(alloc, origin, &branch, tried, seen, bounds) {
         Ok(look) => look,
         Err(error) => return Err((branch, error)),
     };
@@ -88,7 +90,7 @@ pub fn step_branch(
         Some(leaf) => Turn::Closed(leaf),
         None => {
             let known = known_after(&found, seen);
-            open_turn(alloc, instance, branch, known, splits, left)?
+            open_turn(alloc, origin, branch, known, splits, left)?
         }
     };
     Ok(Step { found, turn })
@@ -107,19 +109,19 @@ pub(crate) struct Look<'a> {
 /// is greater, and then for that of a wish run.
 fn look_at<'a>(
     alloc: Global,
-    instance: &'a Instance,
+    origin: &'a Origin,
     branch: &Branch,
     tried: bool,
     seen: u32,
     bounds: Bounds,
 ) -> Result<Look<'a>, AllocError>
-    requires of_scenario { branch.now.scenario ≡ instance.now }
-    requires known { IsTriedIf instance.now branch.now.region tried seen }
-    ensures value { IfOk result (λ look. IsLook bounds instance.now branch.now.region seen look) }
+    requires of_scenario { branch.now.scenario ≡ origin.now }
+    requires known { IsTriedIf origin.now branch.now.region tried seen }
+    ensures value { IfOk result (λ look. IsLook bounds origin.now branch.now.region seen look) }
 {
-    let look = look_at_run(alloc, instance, branch, tried, seen, bounds)?;
+    let look = look_at_run(alloc, origin, branch, tried, seen, bounds)?;
     match bounds {
-        Bounds::Lead => look_by_wishes(alloc, instance, branch, seen, look),
+        Bounds::Lead => look_by_wishes(alloc, origin, branch, seen, look),
         Bounds::Plain | Bounds::Stamp => Ok(look),
     }
 }
@@ -128,24 +130,24 @@ fn look_at<'a>(
 /// simulated, and where one of these has a greater latency it asks for that.
 fn look_by_wishes<'a>(
     alloc: Global,
-    instance: &'a Instance,
+    origin: &'a Origin,
     branch: &Branch,
     seen: u32,
     look: Look<'a>,
 ) -> Result<Look<'a>, AllocError>
-    requires of_scenario { branch.now.scenario ≡ instance.now }
-    requires look { IsLookAtRun Lead instance.now branch.now.region seen look }
-    ensures { IfOk result (λ look. IsLook Lead instance.now branch.now.region seen look) }
+    requires of_scenario { branch.now.scenario ≡ origin.now }
+    requires look { IsLookAtRun Lead origin.now branch.now.region seen look }
+    ensures { IfOk result (λ look. IsLook Lead origin.now branch.now.region seen look) }
 {
-    stamp_bound_at_most_plain();
+    stamp_at_most_plain_from_origin();
     if look.asked.leaf.is_some() {
         return Ok(look);
     }
     let known = known_after(&look.found, seen);
-    match wished(alloc, instance, branch, &look.asked, known)? {
+    match wished(alloc, origin, branch, &look.asked, known)? {
         None => Ok(look),
         Some(found) => {
-            let asked = Bounds::Lead.ask(alloc, instance, branch, found.latency())?;
+            let asked = Bounds::Lead.ask(alloc, origin, branch, found.latency())?;
             Ok(Look {
                 found: Some(found),
                 asked,
@@ -155,16 +157,17 @@ fn look_by_wishes<'a>(
 }
 
 /// The record of a wish run of what leads leave open of a region, if its latency is above the one known, in ticks.
+/// Where the target may wait, they are runs of the widened box, told back.
 pub(crate) fn wished(
     alloc: Global,
-    instance: &Instance,
+    origin: &Origin,
     branch: &Branch,
     asked: &Asked,
     known: u32,
 ) -> Result<Option<Record>, AllocError>
-    requires of_scenario { branch.now.scenario ≡ instance.now }
-    requires left { IfSome asked.now.left (λ left. IsLeftOpen instance.now branch.now.region left.value) }
-    ensures { IfOk result (λ found. IfSome found (IsBetter instance.now known)) }
+    requires of_scenario { branch.now.scenario ≡ origin.now }
+    requires left { IfSome asked.now.left (λ left. IsLeftOpen origin.now branch.now.region left.value) }
+    ensures { IfOk result (λ found. IfSome found (IsBetter origin.now known)) }
 {
     let Some(left) = &asked.left else {
         return Ok(None);
@@ -173,41 +176,58 @@ pub(crate) fn wished(
         return Ok(None);
     };
     let links = left.test.barred_links(&opening.case)?;
-    wish(
-        alloc,
-        instance,
-        branch.delay_box(),
-        &opening.case,
-        &links,
-        known,
-    )
+    let delay_box = branch.delay_box();
+    match origin.moved() {
+        None => {
+            is_its_own(origin, branch);
+            wish(
+                alloc,
+                origin.instance(),
+                delay_box,
+                &opening.case,
+                &links,
+                known,
+            )
+        }
+        Some(moved) => {
+            wish_told_back(
+                alloc,
+                origin,
+                moved,
+                delay_box,
+                &opening.case,
+                &links,
+                known,
+            )
+        }
+    }
 }
 
 /// Asks whether the region is closed for the latency seen, in ticks, then for that of its run, and then whether
 /// it is closed for that if it is greater.
 fn look_at_run<'a>(
     alloc: Global,
-    instance: &'a Instance,
+    origin: &'a Origin,
     branch: &Branch,
     tried: bool,
     seen: u32,
     bounds: Bounds,
 ) -> Result<Look<'a>, AllocError>
-    requires of_scenario { branch.now.scenario ≡ instance.now }
-    requires known { IsTriedIf instance.now branch.now.region tried seen }
+    requires of_scenario { branch.now.scenario ≡ origin.now }
+    requires known { IsTriedIf origin.now branch.now.region tried seen }
     ensures value { IfOk result
-        (λ look. IsLookAtRun bounds instance.now branch.now.region seen look) }
+        (λ look. IsLookAtRun bounds origin.now branch.now.region seen look) }
 {
-    stamp_bound_at_most_plain();
-    let asked = bounds.ask(alloc, instance, branch, seen)?;
+    stamp_at_most_plain_from_origin();
+    let asked = bounds.ask(alloc, origin, branch, seen)?;
     if asked.leaf.is_some() {
         return Ok(Look { found: None, asked });
     }
-    match try_run(alloc, instance, branch, tried, seen)? {
+    match try_run(alloc, origin.instance(), branch, tried, seen)? {
         None => Ok(Look { found: None, asked }),
         Some(found) => {
             let latency = found.latency();
-            let asked = bounds.ask(alloc, instance, branch, latency)?;
+            let asked = bounds.ask(alloc, origin, branch, latency)?;
             Ok(Look {
                 found: Some(found),
                 asked,
@@ -252,42 +272,43 @@ fn known_after(found: &Option<Record>, seen: u32) -> u32
 /// halves, where it can be split. Where memory runs out the region comes back as it was.
 fn open_turn(
     alloc: Global,
-    instance: &Instance,
+    origin: &Origin,
     branch: Branch,
     latency: u32,
     splits: Splits,
     left: Option<Box<LeftOpen>>,
 ) -> Result<Turn, (Branch, AllocError)>
-    requires of_scenario { branch.scenario ≡ instance.now }
-    requires left { IfSome left (λ left. IsLeftOpen instance.now branch.region left.value) }
-    ensures value { (by : Bounds) (known : ℕ) → StaysOpen by instance.now branch.region known
-        → IfOk result (λ turn. IsTurn by instance.now branch.region known turn) }
+    requires of_scenario { branch.scenario ≡ origin.now }
+    requires left { IfSome left (λ left. IsLeftOpen origin.now branch.region left.value) }
+    ensures value { (by : Bounds) (known : ℕ) → StaysOpen by origin.now branch.region known
+        → IfOk result (λ turn. IsTurn by origin.now branch.region known turn) }
     ensures back { IfErr result (λ refused. refused.0 ≡ branch) }
 {
-    match (instance.time(), splits) {
-        (Time::Real, Splits::Orders) => order_turn(alloc, instance, branch, latency, left),
-        _ => packet_turn(alloc, instance, branch, latency, left),
+    match (origin.instance().time(), splits) {
+        (Time::Real, Splits::Orders) => order_turn(alloc, origin, branch, latency, left),
+        _ => packet_turn(alloc, origin, branch, latency, left),
     }
 }
 
 /// The same in real time, where splits by orders that leads leave open and splits at packets take turns.
 fn order_turn(
     alloc: Global,
-    instance: &Instance,
+    origin: &Origin,
     branch: Branch,
     latency: u32,
     left: Option<Box<LeftOpen>>,
 ) -> Result<Turn, (Branch, AllocError)>
-    requires of_scenario { branch.scenario ≡ instance.now }
-    requires real { instance.now.time ≡ Real }
-    requires left { IfSome left (λ left. IsLeftOpen instance.now branch.region left.value) }
-    ensures value { (by : Bounds) (known : ℕ) → StaysOpen by instance.now branch.region known
-        → IfOk result (λ turn. IsTurn by instance.now branch.region known turn) }
+    requires of_scenario { branch.scenario ≡ origin.now }
+    requires real { origin.now.time ≡ Real }
+    requires left { IfSome left (λ left. IsLeftOpen origin.now branch.region left.value) }
+    ensures value { (by : Bounds) (known : ℕ) → StaysOpen by origin.now branch.region known
+        → IfOk result (λ turn. IsTurn by origin.now branch.region known turn) }
     ensures back { IfErr result (λ refused. refused.0 ≡ branch) }
 {
+    let instance = origin.instance();
     match order_to_split(alloc, instance, &branch, &left) {
         Err(error) => Err((branch, error)),
-        Ok(None) => packet_turn(alloc, instance, branch, latency, left),
+        Ok(None) => packet_turn(alloc, origin, branch, latency, left),
         Ok(Some(order)) => ordered_turn(alloc, instance, branch, order.0, order.1),
     }
 }
@@ -295,27 +316,27 @@ fn order_turn(
 /// What becomes of such a region where it is split at a packet, if one may take several delays.
 fn packet_turn(
     alloc: Global,
-    instance: &Instance,
+    origin: &Origin,
     branch: Branch,
     latency: u32,
     left: Option<Box<LeftOpen>>,
 ) -> Result<Turn, (Branch, AllocError)>
-    requires of_scenario { branch.scenario ≡ instance.now }
-    requires left { IfSome left (λ left. IsLeftOpen instance.now branch.region left.value) }
-    ensures value { (by : Bounds) (known : ℕ) → StaysOpen by instance.now branch.region known
-        → IfOk result (λ turn. IsTurn by instance.now branch.region known turn) }
+    requires of_scenario { branch.scenario ≡ origin.now }
+    requires left { IfSome left (λ left. IsLeftOpen origin.now branch.region left.value) }
+    ensures value { (by : Bounds) (known : ℕ) → StaysOpen by origin.now branch.region known
+        → IfOk result (λ turn. IsTurn by origin.now branch.region known turn) }
     ensures back { IfErr result (λ refused. refused.0 ≡ branch) }
 {
     upper_keeps_greatest();
     let rival_first = !branch.before().is_empty();
-    let place = match place_to_split(alloc, instance, &branch, latency, left, rival_first) {
+    let place = match place_to_split(alloc, origin, &branch, latency, left, rival_first) {
         Ok(place) => place,
         Err(error) => return Err((branch, error)),
     };
     match place {
-        None => point_turn(alloc, instance, branch),
+        None => point_turn(alloc, origin.instance(), branch),
         Some((packet, at)) => {
-            let (first, second) = branch.halves(instance, usize::from(packet), at)?;
+            let (first, second) = branch.halves(origin.instance(), usize::from(packet), at)?;
             Ok(Turn::Halves {
                 split: Node::Split { packet, at },
                 first,
@@ -404,14 +425,14 @@ fn ordered_turn(
 /// a low stamp, the place speaks of that, too. The error is that memory ran out.
 pub(crate) fn place_to_split(
     alloc: Global,
-    instance: &Instance,
+    origin: &Origin,
     branch: &Branch,
     latency: u32,
     left: Option<Box<LeftOpen>>,
     rival_first: bool,
 ) -> Result<Option<(u16, u16)>, AllocError>
-    requires of_scenario { branch.now.scenario ≡ instance.now }
-    requires left { IfSome left (λ left. IsLeftOpen instance.now branch.now.region left.value) }
+    requires of_scenario { branch.now.scenario ≡ origin.now }
+    requires left { IfSome left (λ left. IsLeftOpen origin.now branch.now.region left.value) }
     ensures point { IfOk result (λ found. IsNone found ↔ IsPoint branch.now.region.ranges) }
     ensures part { IfOk result
         (λ found. IfSome found (λ place. CanSplit branch.now.region.ranges place.0 place.1)) }
@@ -420,12 +441,12 @@ pub(crate) fn place_to_split(
     if let Some(left) = left
         && let Some(opening) = &left.opening
     {
-        let place = place_by_leads(alloc, instance, delay_box, opening, latency, rival_first)?;
+        let place = place_by_leads(alloc, origin, delay_box, opening, latency, rival_first)?;
         if place.is_some() {
             return Ok(place);
         }
     }
-    Ok(middle_of_widest(instance.table(), delay_box))
+    Ok(middle_of_widest(origin.instance().table(), delay_box))
 }
 
 /// The packet of the widest range of a box, the first where several are as wide, and the middle of its

@@ -1,4 +1,4 @@
-ghost use Rattle.std.specs.Prelude.{◌≡◌, ◌<◌, All, length};
+ghost use Rattle.std.specs.Prelude.{◌≡◌, ◌<◌, ◌≤◌, All, length};
 ghost use Rattle.convoy_draft.specs.declared.limits.TheConstants.{MOST_GROUPS, MOST_MULTICASTS};
 ghost use Rattle.convoy_starts.specs.Links.{IsLink};
 ghost use Rattle.convoy_leads.specs.Openings.{IsOpenCase, IsOpening};
@@ -76,16 +76,21 @@ fn add(wants: &mut [Want], place: Option<u16>, want: Want) {
     }
 }
 
+/// The least and the greatest ticks of a place in a box; 0 and 0 where there is no such place.
+pub(crate) fn range_at(delay_box: &DelayBox, place: Option<u16>) -> (u16, u16)
+    ensures ordered { result.0 ≤ result.1 }
+{
+    match place {
+        Some(place) if usize::from(place) < delay_box.len() => delay_box.range(usize::from(place)),
+        _ => (0, 0),
+    }
+}
+
 impl<'a> Scene<'a> {
-    /// The least and the greatest ticks of a place in the box, 0 and 0 where there is no such place.
+    /// The least and the greatest ticks of a place in the box.
     fn range_at(&self, place: Option<u16>) -> (u32, u32) {
-        match place {
-            Some(place) if usize::from(place) < self.delay_box.len() => {
-                let (least, most) = self.delay_box.range(usize::from(place));
-                (u32::from(least), u32::from(most))
-            }
-            _ => (0, 0),
-        }
+        let (least, most) = range_at(self.delay_box, place);
+        (u32::from(least), u32::from(most))
     }
 
     /// A message is to arrive at a group in time, by its delay on the way there or by its wait.

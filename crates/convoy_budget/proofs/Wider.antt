@@ -1,13 +1,12 @@
 -- A wider range of one way keeps no deadline that a narrower one misses.
-use Rattle.std.proofs.Common.{◌≡◌, ℕ, ◌≤◌, max, pos, Bool, true, false, cond, List, [], ◌∷◌, map, Ok, refl, sym, ap, subst, arith}
+use Rattle.std.proofs.Common.{◌≡◌, ℕ, ◌≤◌, max, pos, Bool, true, false, cond, List, [], ◌∷◌, map, Ok, refl, sym, subst, arith}
 use Rattle.std.specs.List.{AllZip}
-use Rattle.std.specs.Result.{result_and}
 use Rattle.convoy_draft.specs.Checks.{checks, is_within, judge, ticks}
 use Rattle.convoy_draft.specs.declared.limits.TheConstants.{GREATEST_DELAY}
 use Rattle.convoy_scenario.specs.Numbering.{scenario_of}
 use Rattle.convoy_scenario.specs.Scenario.{Scenario}
 use Rattle.convoy_scenario.specs.ScenarioLaws.{DraftsGiveScenarios}
-use Rattle.convoy_scenario.proofs.GivenScenarios.{passed}
+use Rattle.convoy_scenario.proofs.GivenScenarios.{given, passed}
 use Rattle.convoy_scenario.proofs.LinkLemmas.{ticks_again}
 use Rattle.convoy_sim.specs.Greatest.{IsUpper}
 use Rattle.convoy_orders.specs.GreatestAt.{TargetIsAskedFor}
@@ -108,6 +107,6 @@ module _ (lawful : DraftsGiveScenarios) (asked : TargetIsAskedFor) (slower : Nar
       let q = passed (judge (checks (ranged_draft scenario way range))) (scenario_of (ranged_draft scenario way range)) other made_too in
       subst (λ (s : Scenario). Keeps deadline s) q.1
       (keeps_too deadline scenario way range more (wider_at widening.side (range_of_way scenario way) breadth wide less)
-      (ap (λ r. result_and r (Ok (scenario_of (ranged_draft scenario way more)))) p.0)
-      (ap (λ r. result_and r (Ok (scenario_of (ranged_draft scenario way range)))) q.0)
+      (given (ranged_draft scenario way more) p.0 p.2)
+      (given (ranged_draft scenario way range) q.0 q.2)
       (subst (λ (s : Scenario). Keeps deadline s) (sym p.1) keeps))

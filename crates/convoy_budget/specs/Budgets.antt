@@ -1,8 +1,8 @@
 -- The rows of a budget: for each target that has a deadline, each way on which packets travel.
 use Rattle.std.specs.Prelude.{◌≡◌, ◌⊎◌, ℕ, Bool, true, false, if◌then◌else◌, List, [], ◌∷◌, map, Option, Some, None, Ok, Err, Result}
 use Rattle.std.specs.List.{All, flat_map}
-use Rattle.convoy_scenario.specs.Scenario.{Scenario, may_wait, message_at, message_numbers}
-use Rattle.convoy_scenario.specs.Targets.{with_target}
+use Rattle.convoy_scenario.specs.Scenario.{Scenario, message_at, message_numbers}
+use Rattle.convoy_scenario.specs.Targets.{may_be_target, with_target}
 use Rattle.convoy_branch.specs.Options.{Settings}
 use Rattle.convoy_commands.specs.declared.fault.Fault.{Fault}
 use Rattle.convoy_commands.specs.declared.fault.Fault.TheVariants.{Memory}
@@ -24,9 +24,9 @@ abbrev pub with_deadline : ℕ → ℕ → Option ℕ → List Target
 with_deadline m g None = []
 with_deadline m g (Some deadline) = record { message = m; group = g; deadline = deadline } ∷ []
 
--- the same, unless the message may wait: a latency counts from an issue that is known
+-- the same, if the message may be the target
 abbrev pub target_at : List (Option ℕ) → Scenario → ℕ → ℕ → List Target
-target_at deadlines scenario m g = if may_wait (message_at scenario m) then [] else with_deadline m g (deadline_at deadlines m)
+target_at deadlines scenario m g = if may_be_target scenario m then with_deadline m g (deadline_at deadlines m) else []
 
 -- the message at each group that it goes to
 abbrev pub targets_at : List (Option ℕ) → Scenario → ℕ → List Target

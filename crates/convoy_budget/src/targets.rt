@@ -1,7 +1,9 @@
-ghost use Rattle.std.specs.Prelude.{◌≡◌, ◌<◌, ◌++◌, length, IfOk, OnOk};
+ghost use Rattle.std.specs.Prelude.{◌≡◌, ◌<◌, ◌++◌, length, IfOk, OnOk, Some};
 ghost use Rattle.std.specs.List.{All, flat_map};
+ghost use Rattle.convoy_scenario.specs.Room.{HasRoom};
 ghost use Rattle.convoy_scenario.specs.Scenario.{GoesTo, message_numbers};
-ghost use Rattle.convoy_budget.specs.Budgets.{MayBeTarget, target_at, targets_at, targets_of};
+ghost use Rattle.convoy_scenario.specs.Targets.{with_target};
+ghost use Rattle.convoy_budget.specs.Budgets.{MayBeTarget, target_at, targets_at, targets_of, with_deadline};
 
 use super::kinds::Target;
 use convoy_commands::deadline_at;
@@ -9,7 +11,7 @@ use convoy_scenario::Scenario;
 use std::alloc::{AllocError, Global};
 
 /// The targets of a scenario that have deadlines, which are given by the numbers of their messages, in ticks: that of
-/// which the latency is asked, or of all each message that does not wait at each group that it goes to, in the order of
+/// which the latency is asked, or of all each message that may be the target, at each group that it goes to, in the order of
 /// their numbers. Fails where memory runs out, and else never.
 pub fn targets_of(
     alloc: Global,
@@ -64,7 +66,7 @@ fn push_message(
     Ok(())
 }
 
-/// Appends a message at a group that it goes to, if it has a deadline, unless it may wait.
+/// Appends a message at a group that it goes to, if it has a deadline and may be the target.
 fn push_target(
     deadlines: &[Option<u32>],
     scenario: &Scenario,
@@ -78,18 +80,34 @@ fn push_target(
     ensures value { OnOk result (targets.new.items ≡ targets.old.items ++ target_at deadlines.now scenario.now message group) }
     ensures lawful { OnOk result (All (MayBeTarget scenario.now) targets.new.items) }
 {
-    if 0 < scenario.longest_wait(message) {
+    if !scenario.may_be_target(message) {
         return Ok(());
     }
     match deadline_at(deadlines, message) {
-        Some(deadline) => {
-            targets.push(Target {
-                message,
-                group,
-                deadline,
-            })?;
-            Ok(())
-        }
+        Some(deadline) => push_with_deadline(scenario, message, group, deadline, targets),
         None => Ok(()),
     }
+}
+
+/// Appends a message that may be the target at a group that it goes to, with its deadline.
+fn push_with_deadline(
+    _scenario: &Scenario,
+    message: usize,
+    group: usize,
+    deadline: u32,
+    targets: &mut Vec<Target>,
+) -> Result<(), AllocError>
+    requires known { message < length _scenario.now.multicasts }
+    requires addressed { GoesTo _scenario.now message group }
+    requires room { HasRoom (with_target _scenario.now message group) }
+    requires lawful { All (MayBeTarget _scenario.now) targets.old.items }
+    ensures value { OnOk result (targets.new.items ≡ targets.old.items ++ with_deadline message group (Some deadline)) }
+    ensures lawful { OnOk result (All (MayBeTarget _scenario.now) targets.new.items) }
+{
+    targets.push(Target {
+        message,
+        group,
+        deadline,
+    })?;
+    Ok(())
 }

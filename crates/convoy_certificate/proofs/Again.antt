@@ -36,7 +36,7 @@ use Rattle.convoy_certificate.specs.Forms.{version_in, numbers_in, list_in, sche
 use Rattle.convoy_certificate.specs.Reading.{in_text, is_same_version, whole, is_assignment, is_order_list, order_in_time, order_at, leads_with, are_too_many, nodes_in, nodes_at, schedule_at, tree_at, certificate_of, AreReadable, IsTextOf}
 use Rattle.convoy_certificate.specs.CertificateLaws.{TextsAreRead}
 use Rattle.convoy_scenario.specs.Memory.{IsUnlessMemory}
-use Rattle.convoy_certificate.specs.Text.{is_stamp, is_lead, decides_ties, says_time, lines_version, version_for, version_of, version_line, latency_line, schedule_line, order_line, order_lines, ranks_written, schedule_lines, node_line, end_line, certificate_lines, certificate_text}
+use Rattle.convoy_certificate.specs.Text.{is_stamp, is_lead, decides_ties, says_time, lines_version, target_waits, version_for, version_of, version_line, latency_line, schedule_line, order_line, order_lines, ranks_written, schedule_lines, node_line, end_line, certificate_lines, certificate_text}
 use Rattle.convoy_certificate.proofs.Assigned.{passes}
 use Rattle.convoy_certificate.proofs.Orders.{IsWritten, written}
 use Rattle.convoy_certificate.proofs.Parts.{says_again}
@@ -173,15 +173,17 @@ record IsOwn (plan : Scenario) (time : Time) (nodes : List Node) (version : Vers
   linked : CanSayLinks (lines_version version) plan.links
   lists : Lists version time nodes
 
-own_for : (plan : Scenario) (time : Time) (timed : Bool) (nodes : List Node) → plan.time ≡ time → is_timed plan ≡ timed → IsOwn plan time nodes (version_for time timed (length plan.links) nodes)
-own_for plan Real true nodes goes is =
+own_for : (plan : Scenario) (time : Time) (timed waits : Bool) (nodes : List Node) → plan.time ≡ time → is_timed plan ≡ timed → IsOwn plan time nodes (version_for time timed waits (length plan.links) nodes)
+own_for plan Real true true nodes goes is = record { timed = tt; linked = tt; lists = lists_each Five Real refl refl refl nodes }
+own_for plan Ticks true true nodes goes is = record { timed = tt; linked = tt; lists = lists_each Five Ticks refl refl refl nodes }
+own_for plan Real true false nodes goes is =
     elim (cases_Bool (list_any decides_ties nodes)) [
       | inl tied ↦ rw tied (record { timed = tt; linked = tt; lists = lists_each Five Real refl refl refl nodes })
       | inr none ↦ rw none (record { timed = tt; linked = tt; lists = lists_four nodes none })
     ]
-own_for plan Real false nodes goes is = let timed : true ≡ false = rw goes at is in absurd cc
-own_for plan Ticks true nodes goes is = record { timed = tt; linked = tt; lists = lists_each Four Ticks refl refl refl nodes }
-own_for plan Ticks false nodes goes is =
+own_for plan Real false waits nodes goes is = let timed : true ≡ false = rw goes at is in absurd cc
+own_for plan Ticks true false nodes goes is = record { timed = tt; linked = tt; lists = lists_each Four Ticks refl refl refl nodes }
+own_for plan Ticks false waits nodes goes is =
     elim (cases_Bool (list_any is_lead nodes)) [
       | inl led ↦ rw led (record { timed = is; linked = tt; lists = lists_each Three Ticks refl refl refl nodes })
       | inr none ↦
@@ -195,7 +197,7 @@ own_for plan Ticks false nodes goes is =
 
 -- the version in which a certificate is written is its own
 own : (c : Certificate) → IsOwn c.scenario c.scenario.time c.nodes (version_of c)
-own c = own_for c.scenario c.scenario.time (is_timed c.scenario) c.nodes refl refl
+own c = own_for c.scenario c.scenario.time (is_timed c.scenario) (target_waits c.scenario) c.nodes refl refl
 
 said : (c : Certificate) → CanSay (lines_version (version_of c)) c.scenario
 said c = let mine = own c in record { time = mine.timed; links = mine.linked }
@@ -205,7 +207,7 @@ abbrev NodesOf : Version → Time → List Node → Type 0
 NodesOf version time nodes = All (IsNodeWhere (says_time version) time) nodes
 
 nodes_of : (c : Certificate) → IsCertificate c → NodesOf (version_of c) c.scenario.time c.nodes
-nodes_of c is = subst (λ (timed : Bool). All (IsNodeWhere timed c.scenario.time) c.nodes) (sym (says_again c.scenario.time (is_timed c.scenario) (length c.scenario.links) c.nodes)) is.nodes
+nodes_of c is = subst (λ (timed : Bool). All (IsNodeWhere timed c.scenario.time) c.nodes) (sym (says_again c.scenario.time (is_timed c.scenario) (target_waits c.scenario) (length c.scenario.links) c.nodes)) is.nodes
 
 version_again : (version : Version) → version_in (version_line version) ≡ Some version
 version_again One = refl

@@ -13,10 +13,11 @@ use Rattle.convoy_certificate.specs.Text.{is_stamp, is_lead, decides_ties, says_
 use Rattle.convoy_certificate.proofs.Taken.{one_version}
 
 -- the version that is due says how time goes where the scenario has it said
-pub says_again : (time : Time) (timed : Bool) (links : ℕ) (nodes : List Node) → says_time (version_for time timed links nodes) ≡ timed
-says_again Ticks true links nodes = refl
-says_again Real true links nodes = elim (cases_Bool (list_any decides_ties nodes)) [ inl tied ↦ rw tied refl | inr none ↦ rw none refl ]
-says_again time false links nodes =
+pub says_again : (time : Time) (timed waits : Bool) (links : ℕ) (nodes : List Node) → says_time (version_for time timed waits links nodes) ≡ timed
+says_again time true true links nodes = refl
+says_again Ticks true false links nodes = refl
+says_again Real true false links nodes = elim (cases_Bool (list_any decides_ties nodes)) [ inl tied ↦ rw tied refl | inr none ↦ rw none refl ]
+says_again time false waits links nodes =
     elim (cases_Bool (list_any is_lead nodes)) [
       | inl led ↦ rw led refl
       | inr none ↦
@@ -27,8 +28,8 @@ says_again time false links nodes =
     ]
 
 -- nodes that were read in the version that is due are those of a certificate of the scenario
-pub nodes_are : (plan : Scenario) (version due : Version) (timed : Bool) (time : Time) (links : ℕ) (seen nodes : List Node) → is_same_version version due ≡ true → due ≡ version_for time timed links seen → timed ≡ is_timed plan → time ≡ plan.time
+pub nodes_are : (plan : Scenario) (version due : Version) (timed waits : Bool) (time : Time) (links : ℕ) (seen nodes : List Node) → is_same_version version due ≡ true → due ≡ version_for time timed waits links seen → timed ≡ is_timed plan → time ≡ plan.time
     → All (IsNodeWhere (says_time version) time) nodes → All (IsNode plan) nodes
-nodes_are plan version due timed time links seen nodes same is said goes are =
-    let says : says_time version ≡ is_timed plan = ap says_time (one_version version due same ∙ is) ∙ says_again time timed links seen ∙ said in
+nodes_are plan version due timed waits time links seen nodes same is said goes are =
+    let says : says_time version ≡ is_timed plan = ap says_time (one_version version due same ∙ is) ∙ says_again time timed waits links seen ∙ said in
     subst (λ (t : Time). All (IsNodeWhere (is_timed plan) t) nodes) goes (subst (λ (b : Bool). All (IsNodeWhere b time) nodes) says are)

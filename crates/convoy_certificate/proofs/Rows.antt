@@ -1,5 +1,5 @@
 -- Worked rows, computed from the definitions alone.
-use Rattle.std.proofs.Common.{◌≡◌, ℕ, false, List, [], ◌∷◌, ◌++◌, replicate, slice_set, Option, Some, None, Err, refl, codes}
+use Rattle.std.proofs.Common.{◌≡◌, ℕ, false, List, [], ◌∷◌, ◌++◌, replicate, slice_set, Option, Some, None, Result, Ok, Err, refl, codes}
 use Rattle.std.specs.Fmt.{digits}
 use Rattle.std.specs.List.{AllByRecursion}
 use Rattle.convoy_scenario_lines.specs.declared.line_fault.Expected.{Expected}
@@ -22,7 +22,7 @@ use Rattle.convoy_certificate.specs.declared.version.Version.{Version}
 use Rattle.convoy_certificate.specs.declared.version.Version.TheVariants.{One, Two, Three, Four, Five}
 use Rattle.convoy_certificate.specs.Certificate.{Certificate}
 use Rattle.convoy_certificate.specs.Forms.{node_or_end}
-use Rattle.convoy_certificate.specs.Reading.{is_order_list, nodes_in, certificate_of}
+use Rattle.convoy_certificate.specs.Reading.{is_order_list, nodes_in, certificate_of, whole}
 use Rattle.convoy_certificate.specs.Text.{certificate_text}
 
 abbrev message : List ℕ → Sender → List ℕ → ℕ → Message
@@ -102,6 +102,20 @@ waiting = record base {
   nodes = Split 5 0 ∷ Point ∷ Stamp ∷ [];
 }
 
+-- the base, in which t, the target, may be issued from 0 to 2 on, where time goes so; its wait comes first among the delays of t
+abbrev target_waiting : Time → Certificate
+target_waiting time = record base {
+  scenario = record base.scenario {
+    time = time;
+    multicasts = message (codes "x") Client (1 ∷ []) 0 ∷ record { name = codes "t"; sender = Client; destinations = 0 ∷ 1 ∷ []; at = 0; longest_wait = 2 } ∷ message (codes "y") (Group 0) (0 ∷ 1 ∷ []) 6 ∷ [];
+  };
+  schedule = in_fixed_order (3 ∷ 0 ∷ 3 ∷ 3 ∷ 3 ∷ 3 ∷ 3 ∷ 3 ∷ 3 ∷ []);
+}
+
+-- its text from the line `delay` to the line `schedule`
+abbrev target_issued : List ℕ
+target_issued = codes "delay 3\ngroups a b\nmulticast x client 0 b\nmulticast t client 0..2 a b\nmulticast y a 6 a b\ntarget t a\nlatency 12\nschedule 3 0 3 3 3 3 3 3 3\n"
+
 -- ---- what is written
 
 -- each certificate has this text
@@ -128,6 +142,14 @@ texts_with_time : HaveTexts (
     ∷ [])
 unfolding digits no_order marks_of
 texts_with_time = (refl, (refl, (refl, (refl, tt))))
+
+-- in version 5: what else has a target that may wait
+texts_of_waiting_targets : HaveTexts (
+    (target_waiting Ticks, codes "convoy 5\ntime ticks\n" ++ target_issued ++ codes "b\nend\n")
+    ∷ (target_waiting Real, codes "convoy 5\ntime real\n" ++ target_issued ++ codes "order\nb\nend\n")
+    ∷ [])
+unfolding digits no_order
+texts_of_waiting_targets = (refl, (refl, tt))
 
 -- in version 5: real time where the tree has a split by order, or a point leaf
 texts_with_ties : HaveTexts (
@@ -183,6 +205,13 @@ times : HaveFaults (
     ∷ (codes "convoy 4\ntime real\ntick 1000 us\n", 3, expected.Tick) ∷ (codes "convoy 4\ntime real\ntick 0 s\n", 3, expected.Tick) ∷ (codes "convoy 1\ntick 1 ms\n", 2, expected.Delay) ∷ [])
 unfolding certificate_of scenario_at links_in messages_in nodes_in ranges_of packets_of
 times = (refl, (refl, (refl, (refl, (refl, tt)))))
+
+-- where the target may wait version 5 is that of the text, and version 4 is not
+abbrev read_whole : Version → Result (List Node) TextFault
+read_whole version = whole version (target_waiting Ticks).scenario (Bound ∷ [], record { ended = []; rest = []; number = 14 })
+
+versions_of_waiting_targets : (read_whole Four ≡ Err (faults.Line 1 expected.Convoy)) × (read_whole Five ≡ Ok (Bound ∷ []))
+versions_of_waiting_targets = (refl, refl)
 
 -- a text of no bytes; a delay that begins with 0, and one after two spaces; a line `multicast` that is cut off, and one of a message that may wait; a line `link` in version 1, and one that has not its form
 others : HaveFaults (

@@ -38,7 +38,7 @@ use Rattle.convoy_certificate.specs.Certificate.{Certificate}
 use Rattle.convoy_certificate.specs.Forms.{version_in, numbers_in, list_in, schedule_in, order_in, node_in, node_or_end, greatest_listed}
 use Rattle.convoy_certificate.specs.Reading.{in_text, is_same_version, is_assignment, is_order_list, order_in_time, order_at, leads_with, are_too_many, from_node, nodes_in, nodes_at, schedule_at, whole, tree_at, certificate_with, certificate_of, AreReadable, IsTextOf}
 use Rattle.convoy_certificate.specs.CertificateLaws.{TextsAreKept}
-use Rattle.convoy_certificate.specs.Text.{is_lead, lines_version, version_for, version_line, latency_line, schedule_line, schedule_lines, order_line, order_lines, ranks_written, node_line, end_line, certificate_lines, certificate_text}
+use Rattle.convoy_certificate.specs.Text.{is_lead, lines_version, target_waits, version_for, version_line, latency_line, schedule_line, schedule_lines, order_line, order_lines, ranks_written, node_line, end_line, certificate_lines, certificate_text}
 
 same_ok : {A : Type 0} (x y : A) → ◌≡◌ {A = Result A TextFault} (Ok x) (Ok y) → x ≡ y
 same_ok x y e = cc
@@ -248,12 +248,12 @@ record TookTree (version : Version) (plan : Scenario) (place : Place) (nodes : L
   before : place.ended ≡ map node_line nodes ++ end_line ∷ []
   after : place.rest ≡ []
   readable : AreReadable nodes
-  due : version ≡ version_for plan.time (is_timed plan) (length plan.links) nodes
+  due : version ≡ version_for plan.time (is_timed plan) (target_waits plan) (length plan.links) nodes
 
 tree_takes : (version : Version) (plan : Scenario) (place : Place) (nodes : List Node) → tree_at version plan place ≡ Ok nodes → TookTree version plan place nodes
 tree_takes version plan place nodes e =
     let a = bind_ok (nodes_at version plan.time 0 0 place) (whole version plan) nodes e in
-    let due = version_for plan.time (is_timed plan) (length plan.links) a.0.0 in
+    let due = version_for plan.time (is_timed plan) (target_waits plan) (length plan.links) a.0.0 in
     let b = if_true (is_same_version version due) (faults.Line 1 expected.Convoy) (cond (is_at_end a.0.1) (Ok a.0.0) (Err faults.AfterEnd)) nodes a.2 in
     let last = if_true (is_at_end a.0.1) faults.AfterEnd (Ok a.0.0) nodes b.1 in
     let over = nil_ended a.0.1 last.0 in

@@ -23,7 +23,7 @@ use Rattle.convoy_certificate.specs.declared.text_fault.TextFault.TheVariants as
 use Rattle.convoy_certificate.specs.declared.version.Version.{Version}
 use Rattle.convoy_certificate.specs.declared.version.Version.TheVariants.{One, Two, Three, Four, Five}
 use Rattle.convoy_certificate.specs.Certificate.{Certificate}
-use Rattle.convoy_certificate.specs.Text.{is_lead, lines_version, version_for, certificate_text}
+use Rattle.convoy_certificate.specs.Text.{is_lead, lines_version, target_waits, version_for, certificate_text}
 use Rattle.convoy_certificate.specs.Forms.{version_in, schedule_in, order_in, node_or_end}
 
 -- the fault of a line, told of a text
@@ -105,7 +105,7 @@ schedule_at scenario place = do
 -- the nodes that were read up to a place, if a certificate of the scenario with them is written in that version, and nothing follows
 abbrev pub whole : Version → Scenario → List Node × Place → Result (List Node) TextFault
 whole version scenario nodes =
-    if is_same_version version (version_for scenario.time (is_timed scenario) (length scenario.links) nodes.0) then (if is_at_end nodes.1 then Ok nodes.0 else Err faults.AfterEnd)
+    if is_same_version version (version_for scenario.time (is_timed scenario) (target_waits scenario) (length scenario.links) nodes.0) then (if is_at_end nodes.1 then Ok nodes.0 else Err faults.AfterEnd)
     else Err (faults.Line 1 expected.Convoy)
 
 -- the nodes of the next lines, which are the last

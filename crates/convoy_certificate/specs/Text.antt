@@ -4,7 +4,7 @@ use Rattle.std.specs.List.{list_any}
 use Rattle.convoy_lines.specs.Texts.{line_of, number_line, text_of}
 use Rattle.convoy_draft.specs.declared.time.Time.{Time}
 use Rattle.convoy_draft.specs.declared.time.Time.TheVariants.{Ticks, Real}
-use Rattle.convoy_scenario.specs.Scenario.{Scenario, is_timed}
+use Rattle.convoy_scenario.specs.Scenario.{Scenario, is_timed, may_wait, message_at}
 use Rattle.convoy_packets.specs.Assignment.{Schedule}
 use Rattle.convoy_packets.specs.Order.{Order}
 use Rattle.convoy_packets.specs.OrderLists.{is_no_order, ranks_of}
@@ -31,20 +31,26 @@ decides_ties (OrderSplit first second) = true
 decides_ties Point = true
 decides_ties node = false
 
--- the version for nodes where the text says how time goes: 5 in real time where a node decides ties, else 4
-abbrev pub timed_version : Time → List Node → Version
-timed_version Real nodes = if list_any decides_ties nodes then Five else Four
-timed_version Ticks nodes = Four
+-- the target may wait
+abbrev pub target_waits : Scenario → Bool
+target_waits scenario = may_wait (message_at scenario scenario.target_message)
 
--- the version for so many links and for nodes, where time goes so: 4 or 5 where it is real or some message may wait; else 3 where the tree has a lead leaf, and else 1 where there is no link and the tree has no stamp leaf, and 2 where one of them is there
-abbrev pub version_for : Time → Bool → ℕ → List Node → Version
-version_for time true links nodes = timed_version time nodes
-version_for time false links nodes =
+-- the version for nodes where the text says how time goes, and the target may wait or not: 5 where it may, or in real time where a node decides ties, else 4
+abbrev pub timed_version : Time → Bool → List Node → Version
+timed_version time true nodes = Five
+timed_version Real false nodes = if list_any decides_ties nodes then Five else Four
+timed_version Ticks false nodes = Four
+
+-- the version for so many links and for nodes, where time goes so: 4 or 5 where it is real or some message may wait, by whether the target may; else 3 where the tree has a lead leaf, and else 1 where there is no link and the tree has no stamp leaf, and 2 where one of them is there
+abbrev pub version_for : Time → Bool → Bool → ℕ → List Node → Version
+version_for time true waits links nodes = timed_version time waits nodes
+version_for time false waits links nodes =
     if list_any is_lead nodes then Three else if links == 0 && not (list_any is_stamp nodes) then One else Two
 
 -- the version in which a certificate is written
 abbrev pub version_of : Certificate → Version
-version_of certificate = version_for certificate.scenario.time (is_timed certificate.scenario) (length certificate.scenario.links) certificate.nodes
+version_of certificate =
+    version_for certificate.scenario.time (is_timed certificate.scenario) (target_waits certificate.scenario) (length certificate.scenario.links) certificate.nodes
 
 -- the lines of that version say how time goes
 abbrev pub says_time : Version → Bool

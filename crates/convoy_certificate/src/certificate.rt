@@ -2,11 +2,12 @@ ghost use Rattle.std.specs.Prelude.{◌≡◌};
 ghost use Rattle.std.specs.List.{All, list_any};
 ghost use Rattle.convoy_packets.specs.Assignment.{IsAssignment};
 ghost use Rattle.convoy_certificate.specs.Certificate.{IsNode, IsCertificate, Certificate};
-ghost use Rattle.convoy_certificate.specs.Text.{is_stamp, is_lead, decides_ties, timed_version, version_for, version_of};
+ghost use Rattle.convoy_certificate.specs.Text.{is_stamp, is_lead, decides_ties, target_waits, timed_version, version_for, version_of};
 
 use super::node::Node;
 use super::version::Version;
 use convoy_packets::{Instance, Schedule};
+use convoy_scenario::lookup::may_wait;
 use convoy_scenario::{Scenario, Time};
 use std::marker::Model;
 
@@ -84,8 +85,8 @@ impl Certificate {
         &self.instance
     }
 
-    /// The version in which the certificate is written: `Five` where its scenario's time is real and its
-    /// tree has a split by order or a point leaf. Else `Four` where time is real or one of the messages
+    /// The version in which the certificate is written: `Five` where its scenario's target may wait, or time is real
+    /// there and its tree has a split by order or a point leaf. Else `Four` where time is real or one of the messages
     /// may wait; else `Three` where the tree has a lead leaf; else `Two` where the scenario has a link or
     /// the tree a stamp leaf; else `One` (docs/FORMATS.md, "Certificate text").
     pub fn version(&self) -> Version
@@ -95,6 +96,7 @@ impl Certificate {
         version_for(
             scenario.time(),
             scenario.is_timed(),
+            target_waits(scenario),
             scenario.link_count(),
             &self.nodes,
         )
@@ -140,13 +142,26 @@ impl Certificate {
     }
 }
 
+/// Whether the target may wait.
+pub(crate) fn target_waits(scenario: &Scenario) -> bool
+    ensures { result ≡ target_waits scenario.now }
+{
+    may_wait(scenario, scenario.target_message())
+}
+
 /// The version for so many links and for these nodes, where time goes so, and is real or some message
-/// may wait, or not.
-pub(crate) fn version_for(time: Time, timed: bool, links: usize, nodes: &[Node]) -> Version
-    ensures { result ≡ version_for time timed links nodes.now }
+/// may wait, or not, and the target may wait or not.
+pub(crate) fn version_for(
+    time: Time,
+    timed: bool,
+    waits: bool,
+    links: usize,
+    nodes: &[Node],
+) -> Version
+    ensures { result ≡ version_for time timed waits links nodes.now }
 {
     if timed {
-        timed_version(time, nodes)
+        timed_version(time, waits, nodes)
     } else if has_lead(nodes) {
         Version::Three
     } else if links == 0 && !has_stamp(nodes) {
@@ -156,10 +171,13 @@ pub(crate) fn version_for(time: Time, timed: bool, links: usize, nodes: &[Node])
     }
 }
 
-/// The version for these nodes, where the text says how time goes.
-fn timed_version(time: Time, nodes: &[Node]) -> Version
-    ensures { result ≡ timed_version time nodes.now }
+/// The version for these nodes, where the text says how time goes, and the target may wait or not.
+fn timed_version(time: Time, waits: bool, nodes: &[Node]) -> Version
+    ensures { result ≡ timed_version time waits nodes.now }
 {
+    if waits {
+        return Version::Five;
+    }
     match time {
         Time::Real if decide_ties(nodes) => Version::Five,
         _ => Version::Four,

@@ -15,7 +15,7 @@ ghost use Rattle.convoy_certificate.specs.Forms.{version_in, schedule_in, order_
 ghost use Rattle.convoy_certificate.specs.Reading.{in_text, is_same_version, is_within, is_order_list, order_in_time, order_at, are_too_many, leads_with, nodes_at, schedule_at, tree_at, certificate_of, IsTextOf};
 ghost use Rattle.convoy_certificate.specs.Text.{lines_version, says_time};
 
-use super::certificate::{Certificate, MOST_LEADS, MOST_NODES, is_lead, version_for};
+use super::certificate::{Certificate, MOST_LEADS, MOST_NODES, is_lead, target_waits, version_for};
 use super::certificate_laws::{texts_are_kept, texts_are_read};
 use super::certificate_lines::{list_in, node_or_end, version_in};
 use super::node::Node;
@@ -215,7 +215,14 @@ fn read_tree(
 {
     let time = scenario.time();
     let nodes = read_nodes(alloc, version, time, reader)?;
-    let due = version_for(time, scenario.is_timed(), scenario.link_count(), &nodes);
+    let waits = target_waits(scenario);
+    let due = version_for(
+        time,
+        scenario.is_timed(),
+        waits,
+        scenario.link_count(),
+        &nodes,
+    );
     if !is_same_version(version, due) {
         return Err(TextFault::Line(1, Expected::Convoy));
     }

@@ -14,10 +14,11 @@ pub enum Version {
     Three,
     /// A scenario in real time, with a schedule with an order of ties and a tree of splits of delays,
     /// bound leaves and lead leaves; or one in whole ticks in which some message may wait, with a tree
-    /// of such splits and all kinds of leaves.
+    /// of such splits and all kinds of leaves. The target does not wait.
     Four,
     /// A scenario in real time, with such a schedule: splits by order and point leaves may stand in the
-    /// tree too, and one of them does.
+    /// tree too, and one of them does. Or a scenario in which the target may wait: in real time with such a
+    /// tree, and in whole ticks with one as in version 4.
     Five,
 }
 

@@ -10,11 +10,9 @@ use Rattle.convoy_draft.specs.declared.time.Time.TheVariants.{Ticks, Real}
 use Rattle.convoy_scenario.specs.Scenario.{Scenario}
 use Rattle.convoy_sim.specs.Delivery.{latency_of}
 use Rattle.convoy_intervals.specs.Boxes.{CanSplit, can_split}
-use Rattle.convoy_intervals.specs.Bounds.{plain_bound}
 use Rattle.convoy_intervals.proofs.BoxTests.{Decides-can_split}
-use Rattle.convoy_narrowing.specs.Narrowing.{closes_region}
+use Rattle.convoy_origin.specs.FromOrigin.{closes_from_origin, plain_from_origin, stamp_from_origin}
 use Rattle.convoy_regions.specs.Regions.{Region, can_order, is_decided, root_region, run_of}
-use Rattle.convoy_stamps.specs.StampBounds.{stamp_bound}
 use Rattle.convoy_certificate.specs.Certificate.{Certificate}
 use Rattle.convoy_certificate.specs.declared.node.Node.{Node}
 use Rattle.convoy_certificate.specs.declared.node.Node.TheVariants.{Split, Order, Bound, Point, Stamp, Lead}
@@ -52,7 +50,7 @@ node_none plan latency number (Order first second) region =
     let can = can_order plan region first second in
     fault_unless_none (refused.Split number) can (can ≡ true) (Decides-own can)
 node_none plan latency number Bound region =
-    let bound = plain_bound plan region.ranges in
+    let bound = plain_from_origin plan region.ranges in
     fault_unless_none (refused.BoundLeaf number bound) (nat_le bound latency) (bound ≤ latency) (Decides-le bound latency)
 node_none plan latency number Point region =
     let decided = is_decided plan region in
@@ -60,12 +58,12 @@ node_none plan latency number Point region =
     fault_unless_none (refused.PointLeaf number) (decided && nat_le tried latency) ((decided ≡ true) × (tried ≤ latency))
     (Decides-and decided (nat_le tried latency) (Decides-own decided) (Decides-le tried latency))
 node_none plan latency number Stamp region =
-    let bound = stamp_bound plan region.ranges in
+    let bound = stamp_from_origin plan region.ranges in
     fault_unless_none (refused.StampLeaf number bound) (in_ticks plan.time && nat_le bound latency) ((plan.time ≡ Ticks) × (bound ≤ latency))
     (Decides-and (in_ticks plan.time) (nat_le bound latency) (Decides-in_ticks plan.time) (Decides-le bound latency))
 node_none plan latency number (Lead named) region =
     let low = nat_le named latency in
-    let closed = closes_region plan region named in
+    let closed = closes_from_origin plan region named in
     fault_unless_none (refused.LeadLeaf number) (low && closed) ((named ≤ latency) × ClosesByLeads plan named region) (Decides-and low closed (Decides-le named latency) (Decides-own closed))
 
 -- neither of two faults is there just where their first is not

@@ -18,10 +18,12 @@ use Rattle.convoy_checker.specs.declared.refused.Refused.{Refused}
 use Rattle.convoy_checker.specs.declared.refused.Refused.TheVariants.{TreeCount}
 use Rattle.convoy_checker.specs.Checks.{first_fault, node_fault}
 use Rattle.convoy_checker.specs.Looks.{left_after, looked_within}
-use Rattle.convoy_checker.specs.Steps.{allows, node_steps, steps_to_fault, test_count, test_steps, tie_steps, windows_asked}
+use Rattle.convoy_checker.specs.Steps.{allows, lead_steps, node_steps, steps_to_fault, test_count, test_steps, tie_steps, windows_asked}
 use Rattle.convoy_stamps.specs.Reach.{pairs_of}
 use Rattle.convoy_stamps.specs.declared.pair.Pair.{Pair}
 use Rattle.convoy_sure.specs.Windows.{Windows, tables_by, windows_of}
+use Rattle.convoy_scenario.specs.Widened.{widened}
+use Rattle.convoy_origin.specs.WidenedRegions.{widened_region}
 use Rattle.convoy_checker.specs.Trees.{regions_below}
 use Rattle.convoy_checker.specs.Walks.{regions_after}
 use Rattle.convoy_checker.proofs.NextNode.{cons_from_get, nil_from_get}
@@ -96,13 +98,19 @@ module _ (plan : Scenario) (latency number : ℕ) (regions : List Region) (regio
       is_after ∙ ap (λ rs. regions_after plan (get_or nodes number d) rs) (cons_from_get regions region first) in
       rw (left, steps_are below first, fault_is below first, none) (sym (next limit _ _ _ enough))
 
--- the steps of a lead leaf, from its parts
+-- the steps of leads over a region, from their parts
 pub lead_steps_are : (scenario : Scenario) (ranges : Box) (before : List Precedence) (latency : ℕ) (pairs : List Pair) (windows : Windows) (count asked tests steps : ℕ) →
     pairs ≡ pairs_of scenario → windows ≡ windows_of scenario ranges → count ≡ length pairs →
     asked ≡ windows_asked before → tests ≡ test_count scenario (tables_by windows).times latency → steps ≡ test_steps scenario (tables_by windows).times →
-    1 + count + length before + asked * (tests * steps) ≡ node_steps scenario (kinds.Lead latency) (record { ranges = ranges; before = before })
+    1 + count + length before + asked * (tests * steps) ≡ lead_steps scenario (record { ranges = ranges; before = before }) latency
 lead_steps_are scenario ranges before latency pairs windows count asked tests steps are over counts told tested stepped =
     rw (tested, stepped, counts, told, are, over) refl
+
+-- where a region is its own widened region, leads are asked of it
+pub lead_steps_of_itself : (scenario : Scenario) (region : Region) (latency : ℕ) → widened scenario ≡ scenario → widened_region scenario region ≡ region →
+    node_steps scenario (kinds.Lead latency) region ≡ lead_steps scenario region latency
+lead_steps_of_itself scenario region latency same own =
+    ap (λ plan. lead_steps plan (widened_region scenario region) latency) same ∙ ap (λ r. lead_steps scenario r latency) own
 
 -- the steps of a point leaf, from its parts
 pub point_steps_are : (scenario : Scenario) (region : Region) (before : List Precedence) (count ties : ℕ) →

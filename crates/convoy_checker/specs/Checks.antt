@@ -6,10 +6,8 @@ use Rattle.convoy_draft.specs.declared.time.Time.TheVariants.{Ticks, Real}
 use Rattle.convoy_scenario.specs.Scenario.{Scenario}
 use Rattle.convoy_sim.specs.Delivery.{latency_of}
 use Rattle.convoy_intervals.specs.Boxes.{can_split}
-use Rattle.convoy_intervals.specs.Bounds.{plain_bound}
-use Rattle.convoy_narrowing.specs.Narrowing.{closes_region}
+use Rattle.convoy_origin.specs.FromOrigin.{closes_from_origin, plain_from_origin, stamp_from_origin}
 use Rattle.convoy_regions.specs.Regions.{Region, can_order, is_decided, root_region, run_of}
-use Rattle.convoy_stamps.specs.StampBounds.{stamp_bound}
 use Rattle.convoy_certificate.specs.Certificate.{Certificate}
 use Rattle.convoy_certificate.specs.declared.node.Node.{Node}
 use Rattle.convoy_certificate.specs.declared.node.Node.TheVariants.{Split, Order, Bound, Point, Stamp, Lead}
@@ -33,13 +31,13 @@ abbrev pub node_fault : Scenario → ℕ → ℕ → Node → Region → Option 
 node_fault scenario latency number (Split packet at) region = fault_unless (can_split region.ranges packet at) (refused.Split number)
 node_fault scenario latency number (Order first second) region = fault_unless (can_order scenario region first second) (refused.Split number)
 node_fault scenario latency number Bound region =
-    let bound = plain_bound scenario region.ranges in fault_unless (nat_le bound latency) (refused.BoundLeaf number bound)
+    let bound = plain_from_origin scenario region.ranges in fault_unless (nat_le bound latency) (refused.BoundLeaf number bound)
 node_fault scenario latency number Point region =
     fault_unless (is_decided scenario region && nat_le (latency_of scenario (run_of scenario region)) latency) (refused.PointLeaf number)
 node_fault scenario latency number Stamp region =
-    let bound = stamp_bound scenario region.ranges in fault_unless (in_ticks scenario.time && nat_le bound latency) (refused.StampLeaf number bound)
+    let bound = stamp_from_origin scenario region.ranges in fault_unless (in_ticks scenario.time && nat_le bound latency) (refused.StampLeaf number bound)
 node_fault scenario latency number (Lead named) region =
-    fault_unless (nat_le named latency && closes_region scenario region named) (refused.LeadLeaf number)
+    fault_unless (nat_le named latency && closes_from_origin scenario region named) (refused.LeadLeaf number)
 
 -- The first fault of the nodes from that number on, over the regions that are left there, each for a node to come; after
 -- all nodes and regions, `TreeCount` if the one ended before the other.

@@ -5,15 +5,13 @@ use Rattle.convoy_scenario.specs.Scenario.{Scenario}
 use Rattle.convoy_sim.specs.Delivery.{latency_of}
 use Rattle.convoy_certificate.specs.declared.node.Node.{Node}
 use Rattle.convoy_certificate.specs.declared.node.Node.TheVariants.{Split, Order, Bound, Point, Stamp, Lead}
-use Rattle.convoy_intervals.specs.Bounds.{plain_bound}
 use Rattle.convoy_intervals.specs.Boxes.{CanSplit}
-use Rattle.convoy_narrowing.specs.Narrowing.{closes_region}
+use Rattle.convoy_origin.specs.FromOrigin.{closes_from_origin, plain_from_origin, stamp_from_origin}
 use Rattle.convoy_regions.specs.Regions.{Region, can_order, is_decided, run_of}
-use Rattle.convoy_stamps.specs.StampBounds.{stamp_bound}
 
 -- the plain bound of the region's ranges is at most the stated latency
 abbrev pub ClosesByBound : Scenario → ℕ → Region → Type 0
-ClosesByBound scenario latency region = plain_bound scenario region.ranges ≤ latency
+ClosesByBound scenario latency region = plain_from_origin scenario region.ranges ≤ latency
 
 -- each packet has one delay, and in real time the precedences decide all ties; the latency of the one run that is left is at most the stated one
 abbrev pub ClosesByPoint : Scenario → ℕ → Region → Type 0
@@ -21,11 +19,11 @@ ClosesByPoint scenario latency region = IsTrue (is_decided scenario region) × (
 
 -- in whole ticks the stamp bound of the region's ranges is at most the stated latency
 abbrev pub ClosesByStamps : Scenario → ℕ → Region → Type 0
-ClosesByStamps scenario latency region = (scenario.time ≡ Ticks) × (stamp_bound scenario region.ranges ≤ latency)
+ClosesByStamps scenario latency region = (scenario.time ≡ Ticks) × (stamp_from_origin scenario region.ranges ≤ latency)
 
 -- leads close the region for the latency
 abbrev pub ClosesByLeads : Scenario → ℕ → Region → Type 0
-ClosesByLeads scenario latency region = IsTrue (closes_region scenario region latency)
+ClosesByLeads scenario latency region = IsTrue (closes_from_origin scenario region latency)
 
 -- the node is right over the region: the region can be split so, or the leaf closes it; a lead leaf does so for the latency
 -- that it names, which is at most the stated one

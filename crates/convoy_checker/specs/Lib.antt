@@ -9,11 +9,11 @@ pub use Rattle.convoy_intervals.specs.Bounds
 pub use Rattle.convoy_regions.specs.Stages
 pub use Rattle.convoy_regions.specs.Regions
 pub use Rattle.convoy_stamps.specs.Reach
-pub use Rattle.convoy_stamps.specs.StampBounds
 pub use Rattle.convoy_sure.specs.SureLeads
 pub use Rattle.convoy_sure.specs.Windows
-pub use Rattle.convoy_leads.specs.Closing
-pub use Rattle.convoy_narrowing.specs.Narrowing
+pub use Rattle.convoy_origin.specs.Widened
+pub use Rattle.convoy_origin.specs.WidenedRegions
+pub use Rattle.convoy_origin.specs.FromOrigin
 pub use Rattle.convoy_certificate.specs.Certificate
 -- What a valid certificate is, which fault is told, how much work it is to check one, and the laws of these. What a yes means does not rest on these words,
 -- since it is proved that the latency of a valid certificate is the greatest.

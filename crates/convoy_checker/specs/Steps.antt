@@ -15,6 +15,8 @@ use Rattle.convoy_stamps.specs.declared.pair.Pair.{Pair}
 use Rattle.convoy_stamps.specs.Reach.{pairs_of}
 use Rattle.convoy_sure.specs.SureLeads.{pair_count}
 use Rattle.convoy_sure.specs.Windows.{tables_by, windows_of}
+use Rattle.convoy_scenario.specs.Widened.{widened}
+use Rattle.convoy_origin.specs.WidenedRegions.{widened_region}
 use Rattle.convoy_certificate.specs.Certificate.{Certificate}
 use Rattle.convoy_certificate.specs.declared.node.Node.{Node}
 use Rattle.convoy_certificate.specs.declared.node.Node.TheVariants.{Split, Order, Bound, Point, Stamp, Lead}
@@ -57,16 +59,20 @@ tie_steps Real scenario region = pair_count scenario * pair_count scenario + len
 abbrev pub windows_asked : List Precedence → ℕ
 windows_asked before = min 2 (1 + length before)
 
--- the steps of a node: one for any node, which is all for a split by a delay and for the plain bound; beside that for a split by an order one for each precedence; for a point one for each packet and each wait, and those of a test of ties; for the stamp bound one for each pair of the target with each pair; and for leads one for each pair and for each precedence, and then those of all tests, twice where there is a precedence
+-- the steps of a lead leaf that names that latency: one for any node, for each pair and for each precedence, and then those of all tests, twice where there is a precedence
+abbrev pub lead_steps : Scenario → Region → ℕ → ℕ
+lead_steps scenario region latency =
+    let tables = (tables_by (windows_of scenario region.ranges)).times in
+    1 + pair_count scenario + length region.before + windows_asked region.before * (test_count scenario tables latency * test_steps scenario tables)
+
+-- the steps of a node: one for any node, which is all for a split by a delay and for the plain bound; beside that for a split by an order one for each precedence; for a point one for each packet and each wait, and those of a test of ties; for the stamp bound one for each pair of the target with each pair; and for leads those of the widened region, of which leads are asked
 abbrev pub node_steps : Scenario → Node → Region → ℕ
 node_steps scenario (Split packet at) region = 1
 node_steps scenario (Order first second) region = 1 + length region.before
 node_steps scenario Bound region = 1
 node_steps scenario Point region = 1 + length (packets_of scenario) + tie_steps scenario.time scenario region
 node_steps scenario Stamp region = 1 + length (message_at scenario scenario.target_message).destinations * pair_count scenario
-node_steps scenario (Lead latency) region =
-    let tables = (tables_by (windows_of scenario region.ranges)).times in
-    1 + pair_count scenario + length region.before + windows_asked region.before * (test_count scenario tables latency * test_steps scenario tables)
+node_steps scenario (Lead latency) region = lead_steps (widened scenario) (widened_region scenario region) latency
 
 -- the steps of the nodes from that number on, over the regions that are left there, up to the first that has a fault
 abbrev pub steps_to_fault : Scenario → ℕ → ℕ → List Region → List Node → ℕ

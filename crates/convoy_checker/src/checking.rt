@@ -18,21 +18,20 @@ use super::steps::node_steps;
 use super::tree_laws::{checked_is_valid, valid_is_greatest};
 use super::walk::Walk;
 use convoy_certificate::{Certificate, Node};
-use convoy_intervals::{DelayBox, bound};
-use convoy_narrowing::closes_region;
+use convoy_intervals::DelayBox;
+use convoy_origin::{Origin, closes_from_origin, plain_from_origin, stamp_from_origin};
 use convoy_packets::Instance;
 use convoy_regions::region_laws::halves_are_regions;
 use convoy_regions::{Precedence, can_order, is_decided, run_latency};
 use convoy_scenario::Time;
-use convoy_stamps::stamp_bound;
 use std::alloc::{AllocError, Global};
 
 /// Checks a certificate: that its schedule has the stated latency, and that its nodes are one tree
 /// over the root of which every leaf is right (docs/PROTOCOL.md). Then no schedule has a
 /// greater latency.
 ///
-/// The bound of each leaf is computed from scratch. Memory grows with the depth of the tree; a lead
-/// leaf gives back what its test takes. A certificate that isn't valid is refused with its first
+/// The bound of each leaf is computed from scratch. Memory grows with the depth of the tree; a leaf
+/// gives back what its test takes. A certificate that isn't valid is refused with its first
 /// fault, in the order of `Refused`; where memory runs out, `Refused::Memory` is the answer, and says
 /// nothing of the certificate. How long it takes is not limited, and a small certificate may take hours:
 /// [`check_within`] limits it.
@@ -99,7 +98,8 @@ fn check_up_to(
     if simulated != latency {
         return Err(Refused::Latency(simulated));
     }
-    let claim = Claim { instance, latency };
+    let origin = Origin::of(alloc, instance)?;
+    let claim = Claim { origin, latency };
     match first_fault(alloc, &claim, certificate.nodes(), limit)? {
         Looked::All(None) => Ok(Some(Accepted::new(latency))),
         Looked::All(Some(fault)) => Err(fault),
@@ -111,7 +111,7 @@ fn check_up_to(
 /// this.
 #[derive(Drop)]
 struct Claim<'a> {
-    instance: &'a Instance,
+    origin: Origin<'a>,
     latency: u32,
 }
 
@@ -130,26 +130,26 @@ fn first_fault(
     nodes: &[Node],
     limit: Option<u64>,
 ) -> Result<Looked, AllocError>
-    ensures { let scenario = claim.now.instance.now in let root = root_region scenario in
+    ensures { let scenario = claim.now.origin in let root = root_region scenario in
         IfOk result (λ looked. looked ≡ looked_within limit
         (steps_to_fault scenario claim.now.latency 0 (root ∷ []) nodes.now)
         (first_fault scenario claim.now.latency 0 (root ∷ []) nodes.now)) }
 {
     halves_are_regions();
-    let mut walk = Walk::over(alloc, DelayBox::root(alloc, claim.instance)?);
+    let mut walk = Walk::over(alloc, DelayBox::root(alloc, claim.origin.instance())?);
     let mut left = limit;
     for (number, node) in nodes.iter().enumerate() {
         let Some(region) = walk.next_region() else {
             return Ok(Looked::All(Some(Refused::TreeCount)));
         };
-        if !spend(alloc, claim.instance, *node, region, &mut left)? {
+        if !spend(alloc, &claim.origin, *node, region, &mut left)? {
             return Ok(Looked::Short);
         }
         let fault = node_fault(alloc, claim, number, *node, region)?;
         if fault.is_some() {
             return Ok(Looked::All(fault));
         }
-        walk.pass(alloc, claim.instance, *node)?;
+        walk.pass(alloc, claim.origin.instance(), *node)?;
     }
     Ok(Looked::All(walk.next_region().is_some().then_some(Refused::TreeCount)))
 }
@@ -158,21 +158,21 @@ fn first_fault(
 /// enough.
 fn spend(
     alloc: Global,
-    instance: &Instance,
+    origin: &Origin,
     node: Node,
     region: &OpenRegion,
     left: &mut Option<u64>,
 ) -> Result<bool, AllocError>
-    requires inside { IsRegion instance.now region.now }
+    requires inside { IsRegion origin.now region.now }
     ensures enough { IfOk result (λ enough. enough
-        ≡ allows left.old (node_steps instance.now node region.now)) }
+        ≡ allows left.old (node_steps origin.now node region.now)) }
     ensures left { OnOk result (left.new
-        ≡ left_after left.old (node_steps instance.now node region.now)) }
+        ≡ left_after left.old (node_steps origin.now node region.now)) }
 {
     let Some(most) = *left else {
         return Ok(true);
     };
-    let steps = node_steps(alloc, instance, node, region)?;
+    let steps = node_steps(alloc, origin, node, region)?;
     *left = Some(most.saturating_sub(steps));
     Ok(steps <= most)
 }
@@ -185,11 +185,12 @@ fn node_fault(
     node: Node,
     region: &OpenRegion,
 ) -> Result<Option<Refused>, AllocError>
-    requires inside { IsRegion claim.now.instance.now region.now }
-    ensures { IfOk result (λ fault. fault ≡ node_fault claim.now.instance.now claim.now.latency number
+    requires inside { IsRegion claim.now.origin region.now }
+    ensures { IfOk result (λ fault. fault ≡ node_fault claim.now.origin claim.now.latency number
         node region.now) }
 {
-    let (instance, latency) = (claim.instance, claim.latency);
+    let (origin, latency) = (&claim.origin, claim.latency);
+    let instance = origin.instance();
     let (delay_box, before) = (region.delay_box(), region.before());
     let (holds, fault) = match node {
         Node::Split { packet, at } => (
@@ -201,7 +202,7 @@ fn node_fault(
             Refused::Split(number),
         ),
         Node::Bound => {
-            let bound = bound(instance, delay_box);
+            let bound = plain_from_origin(alloc, origin, delay_box)?;
             (bound <= latency, Refused::BoundLeaf(number, bound))
         }
         Node::Point => (
@@ -209,14 +210,14 @@ fn node_fault(
             Refused::PointLeaf(number),
         ),
         Node::Stamp => {
-            let bound = stamp_bound(alloc, instance, delay_box)?;
+            let bound = stamp_from_origin(alloc, origin, delay_box)?;
             (
                 in_ticks(instance) && bound <= latency,
                 Refused::StampLeaf(number, bound),
             )
         }
         Node::Lead { latency: named } => (
-            named <= latency && closes_region(alloc, instance, delay_box, before, named)?,
+            named <= latency && closes_from_origin(alloc, origin, delay_box, before, named)?,
             Refused::LeadLeaf(number),
         ),
     };

@@ -6,17 +6,21 @@ ghost use Rattle.convoy_draft.specs.declared.limits.TheConstants.{MOST_GROUPS};
 ghost use Rattle.convoy_scenario.specs.Scenario.{message_at};
 ghost use Rattle.convoy_intervals.specs.Boxes.{IsBox};
 ghost use Rattle.convoy_regions.specs.Regions.{IsRegion, any_order};
+ghost use Rattle.convoy_regions.specs.Stages.{IsPrecedence};
 ghost use Rattle.convoy_stamps.specs.Reach.{pairs_of};
 ghost use Rattle.convoy_sure.specs.Windows.{tables_by};
 ghost use Rattle.convoy_intervals.specs.Boxes.{Box};
-ghost use Rattle.convoy_checker.specs.Steps.{is_late, node_steps, pair_steps, test_count, test_steps, ticks_seen, tie_steps};
+ghost use Rattle.convoy_checker.specs.Steps.{is_late, lead_steps, node_steps, pair_steps, test_count, test_steps, ticks_seen, tie_steps};
 ghost use Rattle.convoy_checker.specs.Steps.{windows_asked};
 
 use super::open_region::OpenRegion;
 use convoy_certificate::Node;
 use convoy_intervals::DelayBox;
+use convoy_origin::Origin;
+use convoy_origin::widened_laws::widened_region_is_itself;
 use convoy_packets::Instance;
 use convoy_regions::Precedence;
+use convoy_scenario::widened_laws::widened_is_itself;
 use convoy_scenario::{AllocResult, MOST_GROUPS, MOST_MULTICASTS, Scenario, Time};
 use convoy_stamps::Pair;
 use convoy_sure::{LAST_SETTLING, Windows, destinations, list_pairs, target_group};
@@ -31,14 +35,14 @@ const MOST_PAIRS: usize = MOST_MULTICASTS * MOST_GROUPS;
 /// How many steps it takes at most to look at a node over its region.
 pub(crate) fn node_steps(
     alloc: Global,
-    instance: &Instance,
+    origin: &Origin,
     node: Node,
     region: &OpenRegion,
 ) -> AllocResult<u64>
-    requires inside { IsRegion instance.now region.now }
-    ensures { IfOk result (λ steps. steps
-        ≡ node_steps instance.now node region.now) }
+    requires inside { IsRegion origin.now region.now }
+    ensures { IfOk result (λ steps. steps ≡ node_steps origin.now node region.now) }
 {
+    let instance = origin.instance();
     match node {
         Node::Split { .. } | Node::Bound => Ok(1),
         Node::Order { .. } => Ok(1 + region.before().len() as u64),
@@ -48,13 +52,31 @@ pub(crate) fn node_steps(
         }
         Node::Stamp => stamp_steps(alloc, instance.scenario()),
         Node::Lead { latency } => {
-            lead_steps(
-                alloc,
-                instance,
-                latency,
-                region.delay_box(),
-                region.before(),
-            )
+            moved_lead_steps(alloc, origin, latency, region.delay_box(), region.before())
+        }
+    }
+}
+
+/// How many steps a lead leaf that names that latency, in ticks, takes at most: those of the widened region.
+fn moved_lead_steps(
+    alloc: Global,
+    origin: &Origin,
+    latency: u32,
+    delay_box: &DelayBox,
+    before: &[Precedence],
+) -> AllocResult<u64>
+    requires inside { IsBox origin.now delay_box.now }
+    requires within { All (IsPrecedence origin.now) before.now }
+    ensures { IfOk result (λ steps. steps ≡ node_steps origin.now (Node.Lead latency)
+        (record { ranges = delay_box.now; before = before.now })) }
+{
+    widened_is_itself();
+    widened_region_is_itself();
+    match origin.moved() {
+        None => lead_steps(alloc, origin.instance(), latency, delay_box, before),
+        Some(moved) => {
+            let wide = origin.moved_box(alloc, moved, delay_box)?;
+            lead_steps(alloc, moved, latency, &wide, before)
         }
     }
 }
@@ -83,7 +105,7 @@ fn stamp_steps(alloc: Global, scenario: &Scenario) -> AllocResult<u64>
     Ok(1 + target_destinations(scenario) * pairs.len() as u64)
 }
 
-/// How many steps a lead leaf that names that latency, in ticks, takes at most where there are these precedences.
+/// How many steps it takes at most to ask leads of the region of a box and some precedences, for that latency, in ticks.
 fn lead_steps(
     alloc: Global,
     instance: &Instance,
@@ -92,8 +114,8 @@ fn lead_steps(
     before: &[Precedence],
 ) -> AllocResult<u64>
     requires inside { IsBox instance.now delay_box.now }
-    ensures { IfOk result (λ steps. steps ≡ node_steps instance.now (Node.Lead latency)
-        (record { ranges = delay_box.now; before = before.now })) }
+    ensures { IfOk result (λ steps. steps ≡ lead_steps instance.now
+        (record { ranges = delay_box.now; before = before.now }) latency) }
 {
     let scenario = instance.scenario();
     let pairs = list_pairs(alloc, scenario)?;

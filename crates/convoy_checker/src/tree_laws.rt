@@ -5,21 +5,21 @@ ghost use Rattle.convoy_checker.specs.TreeLaws.{BoundLeavesCover, PointLeavesCov
 ghost use Rattle.convoy_checker.specs.TreeLaws.{LeadLeavesCover, TreesCover};
 ghost use Rattle.convoy_checker.specs.TreeLaws.{SplitIsTwoTrees, ValidIsGreatest, CheckedIsValid};
 
-use convoy_intervals::box_laws::{
-    halves_partition, members_are_assignments, plain_bound_holds, root_is_box,
+use convoy_intervals::box_laws::{halves_partition, members_are_assignments, root_is_box};
+use convoy_origin::from_origin_laws::{
+    leads_from_origin_hold, plain_from_origin_holds, stamp_from_origin_holds,
 };
-use convoy_narrowing::narrowing_laws::closed_region_holds;
 use convoy_regions::region_laws::{
     decided_has_one_latency, halves_are_regions, orders_partition, root_holds_all,
 };
-use convoy_stamps::stamp_bound_laws::stamp_bound_holds;
 
 /// Where a box is closed by its plain bound, no member of it has a greater latency than the stated
 /// one, in whatever order ties fall.
 pub fn bound_leaves_cover()
     ensures { BoundLeavesCover }
 {
-    plain_bound_holds();
+    plain_from_origin_holds();
+    members_are_assignments();
 }
 
 /// Where a region is closed as a point whose ties are decided, no member of it has a greater latency than the
@@ -35,14 +35,15 @@ pub fn point_leaves_cover()
 pub fn stamp_leaves_cover()
     ensures { StampLeavesCover }
 {
-    stamp_bound_holds();
+    stamp_from_origin_holds();
+    members_are_assignments();
 }
 
 /// Where leads close a region for a latency, no member of it has a greater one.
 pub fn lead_leaves_cover()
     ensures { LeadLeavesCover }
 {
-    closed_region_holds();
+    leads_from_origin_hold();
     members_are_assignments();
 }
 

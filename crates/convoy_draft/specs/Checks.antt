@@ -3,7 +3,7 @@ use Rattle.std.specs.Prelude.{ℕ, ◌+◌, ℤ, nat_abs, pos, int_le, Bool, tru
 use Rattle.std.specs.List.{list_all, list_any}
 use Rattle.std.specs.Str.{bytes_eq}
 use Rattle.convoy_draft.specs.declared.fault.ScenarioFault.{ScenarioFault}
-use Rattle.convoy_draft.specs.declared.fault.ScenarioFault.TheVariants.{OverLimit, BadName, DoubleName, UnknownGroup, NoDestination, DoubleDestination, UnknownTarget, TargetNotAddressed, LinkToItself, TargetWaits}
+use Rattle.convoy_draft.specs.declared.fault.ScenarioFault.TheVariants.{OverLimit, BadName, DoubleName, UnknownGroup, NoDestination, DoubleDestination, UnknownTarget, TargetNotAddressed, LinkToItself}
 use Rattle.convoy_draft.specs.declared.fault.Limit.TheVariants.{Delay, Groups, Multicasts, At, Until, Link, Tick}
 use Rattle.convoy_draft.specs.declared.limits.TheConstants.{GREATEST_AT, LONGEST_WAIT, MOST_GROUPS, MOST_MULTICASTS}
 use Rattle.convoy_draft.specs.Draft.{Draft, DraftLink, DraftMessage}
@@ -88,13 +88,6 @@ is_target_addressed draft = goes (find (λ message. bytes_eq draft.target_messag
   goes None = false
   goes (Some message) = is_among draft.target_group message.to
 
--- the first message of the target's name is issued at the tick that is written
-abbrev pub is_target_fixed : Draft → Bool
-is_target_fixed draft = is_fixed (find (λ message. bytes_eq draft.target_message message.name) draft.messages) where
-  is_fixed : Option DraftMessage → Bool
-  is_fixed None = false
-  is_fixed (Some message) = int_le message.until message.at
-
 -- a rule and the fault that is told where it does not hold
 abbrev pub Check : Type 0
 Check = Bool × ScenarioFault
@@ -132,7 +125,6 @@ reference_checks draft =
     ∷ (is_message draft.target_message draft.messages, UnknownTarget)
     ∷ (is_target_addressed draft, TargetNotAddressed)
     ∷ (list_all leads_elsewhere draft.links, LinkToItself)
-    ∷ (is_target_fixed draft, TargetWaits)
     ∷ []
 
 -- all the rules, in order

@@ -3,7 +3,7 @@ ghost use Rattle.std.specs.List.{list_all, list_any};
 ghost use Rattle.std.specs.Str.{bytes_eq};
 ghost use Rattle.convoy_draft.specs.Limits.{is_tick};
 ghost use Rattle.convoy_draft.specs.Names.{is_name, is_group_name};
-ghost use Rattle.convoy_draft.specs.Checks.{is_within, ticks, has_wait, is_count, is_among, all_differ, is_known_sender, is_message, messages_differ, knows, is_target_addressed, is_target_fixed, is_named_alike, is_same_pair, links_differ, has_range, knows_link, leads_elsewhere, limit_checks, name_checks, reference_checks, checks, judge};
+ghost use Rattle.convoy_draft.specs.Checks.{is_within, ticks, has_wait, is_count, is_among, all_differ, is_known_sender, is_message, messages_differ, knows, is_target_addressed, is_named_alike, is_same_pair, links_differ, has_range, knows_link, leads_elsewhere, limit_checks, name_checks, reference_checks, checks, judge};
 
 use super::draft::{DraftLink, DraftMulticast, DraftScenario};
 use super::duration::{Duration, LONGEST_DURATION, MOST_UNITS};
@@ -95,9 +95,6 @@ fn check_references(draft: &DraftScenario) -> Result<(), ScenarioFault>
     }
     if !all_lead_elsewhere(&draft.links) {
         return Err(ScenarioFault::LinkToItself);
-    }
-    if !is_target_fixed(draft) {
-        return Err(ScenarioFault::TargetWaits);
     }
     Ok(())
 }
@@ -270,15 +267,6 @@ fn is_target_addressed(draft: &DraftScenario) -> bool
 {
     match find_message(&draft.target_message, &draft.multicasts) {
         Some(multicast) => draft.target_group.is_among(&multicast.to),
-        None => false,
-    }
-}
-
-fn is_target_fixed(draft: &DraftScenario) -> bool
-    ensures { result ≡ is_target_fixed draft.now }
-{
-    match find_message(&draft.target_message, &draft.multicasts) {
-        Some(multicast) => multicast.until <= multicast.at,
         None => false,
     }
 }

@@ -52,7 +52,8 @@ pub enum Limit {
     /// A message is issued at a tick from 0 to `GREATEST_AT`, or waits from then on.
     At,
     /// The last tick at which a message may be issued is not before the first, and at most
-    /// `LONGEST_WAIT` after it.
+    /// `LONGEST_WAIT` after it. That of the target is at most `GREATEST_AT`, and its window and that of
+    /// any other message are together at most `LONGEST_WAIT` long.
     Until,
     /// There are at most `MOST_LINKS` lines `link`; the least delay of a link is 1 or more, and its
     /// greatest not less and at most D.
@@ -103,9 +104,6 @@ pub enum ScenarioFault {
     /// A link leads from a group to that group.
     #[error("a link leads from a group to itself")]
     LinkToItself,
-    /// The target's message may wait, so that its issue is not known.
-    #[error("the target's message may be issued later than at its first tick")]
-    TargetWaits,
     /// In real time something goes from one place to another, and no range is written for it: neither a
     /// link nor the least delay of what goes by none.
     #[error("in real time a packet travels whose range is not written")]

@@ -148,6 +148,66 @@ fn hint_for_until(alloc: Global, sketch: &Sketch<'_>) -> Hint {
             return hint_for_window(alloc, &sketch.draft, multicast, part).map(Some);
         }
     }
+    hint_for_room(alloc, sketch)
+}
+
+/// That the window of the target ends too late, or is too long beside that of another message.
+fn hint_for_room(alloc: Global, sketch: &Sketch<'_>) -> Hint {
+    let draft = &sketch.draft;
+    for (target, part) in draft.multicasts.iter().zip(&sketch.multicasts) {
+        if !target.name.is_same(&draft.target_message) {
+            continue;
+        }
+        if target.until > i64::from(GREATEST_AT) {
+            return hint_for_last_issue(alloc, target.until, part, draft.tick).map(Some);
+        }
+        return hint_beside_target(alloc, sketch, target, part);
+    }
+    Ok(None)
+}
+
+/// That the target may be issued too late.
+fn hint_for_last_issue(
+    alloc: Global,
+    until: i64,
+    part: &Part<'_>,
+    tick: Option<Duration>,
+) -> Result<String, AllocError> {
+    match tick {
+        Some(tick) => {
+            let tick = Length(tick);
+            format!(in alloc;
+                "'until' in {part} is {until} ticks of {tick}, and that of the target may be at most {GREATEST_AT}: choose a larger tick, or take the same from each 'at'"
+            )
+        }
+        None => format!(in alloc;
+            "'until' in {part} is {until}, and that of the target may be at most {GREATEST_AT}"
+        ),
+    }
+}
+
+/// Which message has a window that is too long beside that of the target.
+fn hint_beside_target(
+    alloc: Global,
+    sketch: &Sketch<'_>,
+    target: &DraftMulticast,
+    of_target: &Part<'_>,
+) -> Hint {
+    let waits = target.until.saturating_sub(target.at);
+    for (multicast, part) in sketch.draft.multicasts.iter().zip(&sketch.multicasts) {
+        let both = (multicast.until.saturating_sub(multicast.at)).saturating_add(waits);
+        if multicast.name.is_same(&target.name) || both <= i64::from(LONGEST_WAIT) {
+            continue;
+        }
+        let advice = if sketch.draft.tick.is_some() {
+            "choose a larger tick, or shorter windows"
+        } else {
+            "shorten one of them"
+        };
+        return format!(in alloc;
+            "the windows of {of_target}, which is the target, and of {part} are {both} ticks together, and may be {LONGEST_WAIT}, as each is counted from the issue of the other: {advice}"
+        ).map(Some);
+    }
     Ok(None)
 }
 

@@ -228,26 +228,6 @@ fn hint_for_elsewhere(
     format!(in alloc; "{place} asks for {part} at {group}, and it goes to {to} alone")
 }
 
-/// The target's message may be issued at several ticks.
-pub(crate) fn hint_for_waiting_target(alloc: Global, sketch: &Sketch<'_>) -> Hint {
-    for (multicast, part) in sketch.draft.multicasts.iter().zip(&sketch.multicasts) {
-        if multicast.name.is_same(&sketch.draft.target_message) {
-            return format!(in alloc;
-                "the latency of the target counts from its issue, so that has to be known: leave 'until' out of {part}; windows of the others say how much earlier or later they may come"
-            ).map(Some);
-        }
-    }
-    Ok(None)
-}
-
-/// No target is written, where any message with a known issue may be it, and there is none such.
-pub(crate) fn hint_for_no_known_issue(alloc: Global) -> Result<String, AllocError> {
-    String::from_str(
-        alloc,
-        "each message has an 'until', and a latency counts from an issue that is known: leave 'until' out of one message at least",
-    )
-}
-
 /// Which link leads to its own sender.
 pub(crate) fn hint_for_link_to_itself(alloc: Global, sketch: &Sketch<'_>) -> Hint {
     for (link, part) in sketch.draft.links.iter().zip(&sketch.links) {

@@ -5,8 +5,7 @@ use super::numbers::{hint_for_least_of_all, hint_for_limit, hint_for_many_links}
 use super::ranges::hint_for_no_range;
 use super::references::{
     hint_for_double_destination, hint_for_link_to_itself, hint_for_no_destination,
-    hint_for_no_known_issue, hint_for_target_not_addressed, hint_for_unknown_group,
-    hint_for_unknown_target, hint_for_waiting_target,
+    hint_for_target_not_addressed, hint_for_unknown_group, hint_for_unknown_target,
 };
 use convoy_certificate::{Form, form_of};
 use convoy_hints_sketch::{
@@ -270,10 +269,6 @@ fn hint_for_draft(
     match fault {
         ScenarioFault::NoRange => hint_for_no_range(alloc, &draft, written.delay.is_some()),
         ScenarioFault::Shape(_) => hint_for_deadline(alloc, source, written, &asked.at_most),
-        ScenarioFault::TargetWaits
-            if !names_target(asked) && !source.table.contains_key(Key::Target.word()) => {
-            hint_for_no_known_issue(alloc).map(Some)
-        }
         fault => {
             let names_target = names_target(asked);
             let sketch = sketch_of_draft(alloc, source, &written.links, draft, names_target)?;
@@ -313,7 +308,6 @@ pub fn hint_for_sketch(alloc: Global, sketch: &Sketch<'_>, fault: ScenarioFault)
         ScenarioFault::UnknownTarget => hint_for_unknown_target(alloc, sketch),
         ScenarioFault::TargetNotAddressed => hint_for_target_not_addressed(alloc, sketch),
         ScenarioFault::LinkToItself => hint_for_link_to_itself(alloc, sketch),
-        ScenarioFault::TargetWaits => hint_for_waiting_target(alloc, sketch),
         ScenarioFault::NotToml
         | ScenarioFault::Shape(_)
         | ScenarioFault::NotWhole(_)

@@ -13,9 +13,9 @@ use Rattle.convoy_packets.specs.ScheduleLaws.{is_sent}
 use Rattle.convoy_sim.specs.Times.{issue, arrive, settle, propose_arrive}
 use Rattle.convoy_laws.specs.FinerTicks.{IsFiner}
 use Rattle.convoy_laws.proofs.Offset.{up_from, from_rises, from_least, from_times, from_span, from_greatest}
-use Rattle.convoy_laws.proofs.Lists.{all_zip_made}
+use Rattle.convoy_origin.proofs.Lists.{all_zip_made}
 use Rattle.convoy_laws.proofs.Used.{Used}
-use Rattle.convoy_laws.proofs.PacketDelays.{delay_at_place, no_delay, sent_of_in, unsent_if_nowhere}
+use Rattle.convoy_origin.proofs.PacketDelays.{delay_at_place, no_delay, sent_of_in, unsent_if_nowhere}
 use Rattle.convoy_laws.proofs.SameParts.{same_message, same_multicast, same_propose, fixed_too}
 
 -- when a packet is sent; a wait begins at the first tick at which its message may be issued

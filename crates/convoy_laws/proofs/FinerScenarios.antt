@@ -16,6 +16,8 @@ use Rattle.convoy_scenario.specs.declared.sender.Sender.{Sender}
 use Rattle.convoy_scenario.specs.declared.sender.Sender.TheVariants.{Client, Group}
 use Rattle.convoy_scenario.specs.ScenarioLaws.{OrderKeepsRanges}
 use Rattle.convoy_scenario.specs.Numbering.{link_of, message_place, place, scenario_of, scenario_of_draft, sender_of}
+use Rattle.convoy_scenario.specs.Room.{has_room}
+use Rattle.convoy_scenario.proofs.GivenScenarios.{given}
 use Rattle.convoy_scenario.specs.Scenario.{Link, Message, Scenario, is_same_sender, message_at, no_message, range_between}
 use Rattle.convoy_scenario.proofs.KeptRanges.{leads, range_found}
 use Rattle.convoy_scenario.proofs.NumberedLemmas.{Passes, passes}
@@ -186,6 +188,8 @@ pub record AreRead (times tick : ℕ) (plain : Draft) (least : Option ℤ) : Typ
   pub ranged : has_ranges (is_some least) (with_least least plain) ≡ true
   pub holds : judge (checks (record plain { links = (with_least least plain).links })) ≡ Ok tt
   pub fine_holds : judge (checks (record (finer_draft times tick plain) { links = (with_least (option_map (finer_ticks times) least) (finer_draft times tick plain)).links })) ≡ Ok tt
+  pub room : has_room (scenario_of (record plain { links = (with_least least plain).links })) ≡ true
+  pub fine_room : has_room (scenario_of (record (finer_draft times tick plain) { links = (with_least (option_map (finer_ticks times) least) (finer_draft times tick plain)).links })) ≡ true
 
 module _ (keeps : OrderKeepsRanges) (times tick : ℕ) (plain : Draft) (least : Option ℤ) (are : AreRead times tick plain least) where
   abbrev draft : Draft
@@ -225,10 +229,10 @@ module _ (keeps : OrderKeepsRanges) (times tick : ℕ) (plain : Draft) (least : 
   same_message m = fine_at times scenario.multicasts finer.multicasts m zipped
 
   given_here : scenario_of_draft draft ≡ Ok scenario
-  given_here = rw (are.holds) refl
+  given_here = given draft are.holds are.room
 
   given_there : scenario_of_draft fine_draft ≡ Ok finer
-  given_there = rw (are.fine_holds) refl
+  given_there = given fine_draft are.fine_holds are.fine_room
 
   between_same : (sender : Sender) (to : ℕ) → Goes draft sender to → range_between finer sender to ≡ finer_range times (range_between scenario sender to)
   between_same sender to trip =

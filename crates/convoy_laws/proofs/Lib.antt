@@ -13,15 +13,11 @@ pub mod Used
 pub mod Ceiling
 pub mod Offset
 pub mod Scaled
-pub mod Lists
 pub mod SameParts
-pub mod PacketDelays
 pub mod Delays
 pub mod Ranks
 pub mod MomentOrder
-pub mod SameRun
 pub mod Rounded
-pub mod Delivered
 pub mod Matched
 pub mod SameTimes
 pub mod IssueTimes

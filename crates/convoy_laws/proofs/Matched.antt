@@ -13,9 +13,9 @@ use Rattle.convoy_laws.proofs.Offset.{up_from, from_holds, from_at_most, from_pa
 use Rattle.convoy_laws.proofs.SameParts.{same_addressed_to}
 use Rattle.convoy_laws.proofs.Delays.{whole_in, issues, arrives, settles, delays_within}
 use Rattle.convoy_laws.proofs.Ranks.{rank_among, order_among, is_order}
-use Rattle.convoy_laws.proofs.SameRun.{same_local, same_final}
+use Rattle.convoy_origin.proofs.SameRun.{same_local, same_final}
 use Rattle.convoy_laws.proofs.Rounded.{is_rounded}
-use Rattle.convoy_laws.proofs.Delivered.{IsSameHold, free_same, delivered_by, delivered_free}
+use Rattle.convoy_origin.proofs.Delivered.{IsSameHold, free_same, delivered_by, delivered_free}
 
 module _ (used : Used) (k : ℕ) (plan fine : Scenario) (is : IsFiner k plan fine) (o : ℕ) (less : o < k) (well : IsRoundable plan) (real : plan.time ≡ Real) (schedule : Schedule) where
   abbrev whole : Schedule

@@ -16,7 +16,7 @@ use Rattle.convoy_sim.proofs.Addressed.{in_of_goes, in-numbers, number_of_goes}
 use Rattle.convoy_sim.proofs.MomentsOrder.{before_itself, before_trans}
 use Rattle.convoy_packets.proofs.Lists.{length-increasing-le}
 use Rattle.convoy_laws.specs.FinerTicks.{IsFiner, IsRoundable}
-use Rattle.convoy_laws.proofs.Lists.{filter_less, filter_not_all, flat_map_few}
+use Rattle.convoy_origin.proofs.Lists.{filter_less, filter_not_all, flat_map_few}
 use Rattle.convoy_laws.proofs.SameParts.{same_message, same_numbers, goes_too}
 
 -- the rank of a moment among others: how many of them are before it

@@ -16,12 +16,12 @@ use Rattle.convoy_sim.proofs.MomentTicks.{tick_of_before}
 use Rattle.convoy_laws.specs.FinerTicks.{IsFiner, IsRoundable}
 use Rattle.convoy_laws.proofs.Used.{Used}
 use Rattle.convoy_laws.proofs.Offset.{up_from, from_rises}
-use Rattle.convoy_laws.proofs.Lists.{greatest_first}
+use Rattle.convoy_origin.proofs.Lists.{greatest_first}
 use Rattle.convoy_laws.proofs.SameParts.{same_message, same_numbers, goes_too}
 use Rattle.convoy_laws.proofs.Delays.{whole_in, arrives, settles}
 use Rattle.convoy_laws.proofs.Ranks.{rank_among, rank_rises, order_among, arrival_among, arrival_ranked, commit_ranked}
 use Rattle.convoy_laws.proofs.MomentOrder.{before_by_rank, arrival_rank_commit}
-use Rattle.convoy_laws.proofs.SameRun.{IsMoved, moment_at, moved}
+use Rattle.convoy_origin.proofs.SameRun.{IsMoved, moment_at, moved}
 
 -- a moment rounded up to whole ticks, with its rank among others
 abbrev whole_moment : ℕ → ℕ → List Moment → Moment → Moment

@@ -16,8 +16,8 @@ use Rattle.convoy_sim.specs.Stamps.{clocks_of, local_stamp, final_stamp}
 use Rattle.convoy_sim.specs.Delivery.{holds_back, deliver, latency_at, latency_of}
 use Rattle.convoy_scenario.proofs.RowScenarios.{message, base_with, base}
 use Rattle.convoy_laws.specs.FinerTicks.{AreSameRanges, IsFiner, IsInRange, finer_range}
-use Rattle.convoy_laws.proofs.Lists.{zip_at}
-use Rattle.convoy_laws.proofs.PacketDelays.{in_of_sent}
+use Rattle.convoy_origin.proofs.Lists.{zip_at}
+use Rattle.convoy_origin.proofs.PacketDelays.{in_of_sent}
 
 -- x from a client to b, t from a client to a and b, and y from a to a and b, with delays of 1 to 3 ticks
 unfoldable in_ticks : Scenario

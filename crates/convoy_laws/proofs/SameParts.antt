@@ -7,7 +7,7 @@ use Rattle.convoy_packets.specs.declared.packet.Packet.TheVariants.{Multicast, P
 use Rattle.convoy_packets.specs.ScheduleLaws.{is_sent}
 use Rattle.convoy_sim.specs.Delivery.{addressed_to}
 use Rattle.convoy_laws.specs.FinerTicks.{IsFinerMessage, IsFiner}
-use Rattle.convoy_laws.proofs.Lists.{filter_same}
+use Rattle.convoy_origin.proofs.Lists.{filter_same}
 
 message_in : (k : ℕ) (xs ys : List Message) (m : ℕ) → AllZip (IsFinerMessage k) xs ys → IsFinerMessage k (get_or xs m no_message) (get_or ys m no_message)
 message_in k [] [] m h = record { sender = refl; destinations = refl; at = omega arith; until = omega arith }

@@ -14,7 +14,8 @@ use Rattle.convoy_draft.specs.Limits.{is_tick}
 use Rattle.convoy_scenario.specs.ScenarioLaws.{DraftsGiveScenarios, OrderKeepsRanges}
 use Rattle.convoy_scenario.specs.Numbering.{scenario_of, scenario_of_draft}
 use Rattle.convoy_scenario.specs.Scenario.{Scenario}
-use Rattle.convoy_scenario.proofs.GivenScenarios.{passed}
+use Rattle.convoy_scenario.specs.Room.{has_room}
+use Rattle.convoy_scenario.proofs.GivenScenarios.{given as given_by, passed}
 use Rattle.convoy_scenario.proofs.NumberedLemmas.{passes}
 use Rattle.convoy_toml.specs.declared.target.TargetKey.TheVariants.{Required}
 use Rattle.convoy_toml.specs.Reading.{InputView, as_written, input_of_table, input_of_text, input_of_written, need_ranges, scenario_of_input, scenario_of_text, scenario_of_written, table_of_text}
@@ -83,7 +84,7 @@ same_greatest grounds times tick plain least are =
     let scenario = scenario_of draft in
     let fine_draft : Draft = record (finer_draft times tick plain) { links = (with_least (option_map (finer_ticks times) least) (finer_draft times tick plain)).links } in
     let finer = scenario_of fine_draft in
-    let made : scenario_of_draft draft ≡ Ok scenario = rw (are.holds) refl in
+    let made : scenario_of_draft draft ≡ Ok scenario = given_by draft are.holds are.room in
     let well = grounds.roundable scenario (grounds.drafts draft scenario made) in
     let is = is_finer grounds.keeps times tick plain least are in
     let same = same_ranges grounds.keeps times tick plain least are in
@@ -133,6 +134,8 @@ texts_same grounds times text finer_text scenario finer say e f real =
       ranged = ranged;
       holds = subst (λ (d : Draft). judge (checks d) ≡ Ok tt) draft_is p.0;
       fine_holds = subst (λ (d : Draft). judge (checks d) ≡ Ok tt) finer_is q.0;
+      room = subst (λ (d : Draft). has_room (scenario_of d) ≡ true) draft_is p.2;
+      fine_room = subst (λ (d : Draft). has_room (scenario_of d) ≡ true) finer_is q.2;
     } in
     let both = same_greatest grounds times tick plain made.least read in
     let first = subst (λ (d : Draft). HaveSameGreatest times (scenario_of d) (scenario_of (record (finer_draft times tick plain) { links = (with_least more (finer_draft times tick plain)).links }))) (sym draft_is) both in

@@ -18,10 +18,10 @@ use Rattle.convoy_sim.specs.Moments.{rank_in, arrival_rank, rank_then, commit_ra
 use Rattle.convoy_sim.specs.Delivery.{addressed_to, is_free, first_tick, last_commit, deliver, latency_at}
 use Rattle.convoy_laws.specs.IssueWindows.{AreAlike, RunsFitOtherWindows, with_messages}
 use Rattle.convoy_laws.proofs.Used.{Used}
-use Rattle.convoy_laws.proofs.Lists.{all_zip_made, filter_same}
-use Rattle.convoy_laws.proofs.PacketDelays.{delay_at_place, no_delay, sent_of_in, unsent_if_nowhere}
-use Rattle.convoy_laws.proofs.SameRun.{IsMoved, moment_at, same_local, same_final}
-use Rattle.convoy_laws.proofs.Delivered.{IsSameHold, free_same}
+use Rattle.convoy_origin.proofs.Lists.{all_zip_made, filter_same}
+use Rattle.convoy_origin.proofs.PacketDelays.{delay_at_place, no_delay, sent_of_in, unsent_if_nowhere}
+use Rattle.convoy_origin.proofs.SameRun.{IsMoved, moment_at, same_local, same_final}
+use Rattle.convoy_origin.proofs.Delivered.{IsSameHold, free_same}
 
 message_in : (xs ys : List Message) (m : ℕ) → AllZip AreAlike xs ys → AreAlike (get_or xs m no_message) (get_or ys m no_message)
 message_in [] [] m h = record { sender = refl; destinations = refl }

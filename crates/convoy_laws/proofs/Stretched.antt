@@ -17,13 +17,13 @@ use Rattle.convoy_sim.specs.Moments.{is_before, is_kind_before, is_same_kind, ra
 use Rattle.convoy_sim.specs.Delivery.{deliver, latency_at, latency_of}
 use Rattle.convoy_sim.specs.ProtocolLaws.{ArrivesBeforeCommit}
 use Rattle.convoy_laws.specs.FinerTicks.{AreSameRanges, IsFiner, IsFinerMessage, IsRoundable, finer_range, FinerRunsAreMatched, GreatestInFinerTicks, GreatestIsWhole, WholeTicksAreEnough}
-use Rattle.convoy_laws.proofs.PacketDelays.{delay_at_place, no_delay, sent_of_in}
+use Rattle.convoy_origin.proofs.PacketDelays.{delay_at_place, no_delay, sent_of_in}
 use Rattle.convoy_laws.proofs.Ceiling.{times_rise, times_fall, times_plus}
 use Rattle.convoy_laws.proofs.Scaled.{times_greatest, times_at, times_within, times_before, times_same, floor_rises, floor_falls, floor_at_most, floor_past}
 use Rattle.convoy_laws.proofs.SameParts.{same_message, same_numbers, fixed_too, same_addressed, same_addressed_to, goes_too}
-use Rattle.convoy_laws.proofs.SameRun.{IsMoved, moment_at, moved, same_local, same_final}
-use Rattle.convoy_laws.proofs.Lists.{map_made}
-use Rattle.convoy_laws.proofs.Delivered.{IsSameHold, free_same, delivered_by, delivered_free}
+use Rattle.convoy_origin.proofs.SameRun.{IsMoved, moment_at, moved, same_local, same_final}
+use Rattle.convoy_origin.proofs.Lists.{map_made}
+use Rattle.convoy_origin.proofs.Delivered.{IsSameHold, free_same, delivered_by, delivered_free}
 
 -- the schedule in finer ticks
 abbrev stretched : ℕ → Schedule → Schedule

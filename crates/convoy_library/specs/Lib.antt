@@ -59,6 +59,8 @@ pub use Rattle.convoy_intervals.specs.Bounds as PlainBounds
 pub use Rattle.convoy_stamps.specs.StampBounds
 pub use Rattle.convoy_laws.specs.Narrower
 pub use Rattle.convoy_leads.specs.Closing
+pub use Rattle.convoy_scenario.specs.Widened
+pub use Rattle.convoy_origin.specs.FromOrigin
 -- what seeking and a search answer
 pub use Rattle.convoy_seek.specs.Finds
 pub use Rattle.convoy_branch.specs.declared.bounds.Bounds

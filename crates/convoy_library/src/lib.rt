@@ -11,6 +11,7 @@ pub use convoy_laws as laws;
 pub use convoy_leads as leads;
 pub use convoy_ledger as ledger;
 pub use convoy_machine as machine;
+pub use convoy_origin as origin;
 pub use convoy_packets as packets;
 pub use convoy_scenario as scenario;
 pub use convoy_scenario_lines as scenario_lines;

@@ -9,15 +9,17 @@ use Rattle.convoy_scenario.specs.WellFormed.{IsScenario}
 use Rattle.convoy_packets.specs.Assignment.{Schedule, ranges_of}
 use Rattle.convoy_packets.specs.Order.{IsOrder}
 use Rattle.convoy_sim.specs.Delivery.{latency_of}
-use Rattle.convoy_intervals.specs.Bounds.{plain_bound}
 use Rattle.convoy_intervals.proofs.Members.{AreRanges-box}
 use Rattle.convoy_intervals.specs.Boxes.{Box, IsBox, IsIn}
 use Rattle.convoy_regions.specs.Stages.{IsPrecedence, Precedence, comes_before}
 use Rattle.convoy_regions.specs.Regions.{IsMember, IsRegion, Region, any_order, is_decided, run_of}
-use Rattle.convoy_stamps.specs.StampBounds.{stamp_bound}
 use Rattle.convoy_leads.specs.Closing.{closes_by_leads}
-use Rattle.convoy_narrowing.specs.Narrowing.{closes_region}
 use Rattle.convoy_narrowing.proofs.RegionWindows.{closed_as_box}
+use Rattle.convoy_origin.specs.FromOrigin.{closes_from_origin, plain_from_origin, stamp_from_origin}
+use Rattle.convoy_scenario.specs.Widened.{widened}
+use Rattle.convoy_origin.specs.WidenedBoxes.{widened_box}
+use Rattle.convoy_origin.specs.WidenedRegions.{RegionsWiden}
+use Rattle.convoy_scenario.specs.WidenedLaws.{WidenedIsScenario}
 use Rattle.convoy_certificate.specs.declared.node.Node.{Node}
 use Rattle.convoy_certificate.specs.declared.node.Node.TheVariants.{Split, Order, Bound, Point, Stamp, Lead}
 use Rattle.convoy_checker.specs.declared.refused.Refused.{Refused}
@@ -40,17 +42,16 @@ four_tests false false false true first second third fourth = refl
 four_tests false false false false first second third fourth = refl
 
 -- the test of all kinds of leaves, in the order of what they take
-pub closes_is : (plan : Scenario) (latency : ℕ) (box : Box) → closes plan latency box ≡ (nat_le (plain_bound plan box) latency || ((is_decided plan (any_order box) && nat_le (latency_of plan (run_of plan (any_order box))) latency) || ((in_ticks plan.time && nat_le (stamp_bound plan box) latency) || closes_by_leads plan box latency)))
+pub closes_is : (plan : Scenario) (latency : ℕ) (box : Box) → closes plan latency box ≡ (nat_le (plain_from_origin plan box) latency || ((is_decided plan (any_order box) && nat_le (latency_of plan (run_of plan (any_order box))) latency) || ((in_ticks plan.time && nat_le (stamp_from_origin plan box) latency) || closes_from_origin plan (any_order box) latency)))
 closes_is plan latency box =
     let region : Region = any_order box in
-    let bound = plain_bound plan box in
+    let bound = plain_from_origin plan box in
     let low = nat_le bound latency in
     let point = is_decided plan region && nat_le (latency_of plan (run_of plan region)) latency in
-    let stamp = in_ticks plan.time && nat_le (stamp_bound plan box) latency in
-    let lead = closes_region plan region latency in
-    four_tests low point stamp (nat_le latency latency && lead) (refused.BoundLeaf 0 bound) (refused.PointLeaf 0) (refused.StampLeaf 0 (stamp_bound plan box)) (refused.LeadLeaf 0)
+    let stamp = in_ticks plan.time && nat_le (stamp_from_origin plan box) latency in
+    let lead = closes_from_origin plan region latency in
+    four_tests low point stamp (nat_le latency latency && lead) (refused.BoundLeaf 0 bound) (refused.PointLeaf 0) (refused.StampLeaf 0 (stamp_from_origin plan box)) (refused.LeadLeaf 0)
     ∙ ap (λ (itself : Bool). low || (point || (stamp || (itself && lead)))) (le-leb latency latency (omega arith))
-    ∙ ap (λ (closed : Bool). low || (point || (stamp || closed))) (closed_as_box plan box latency)
 
 -- what rests on the kinds of leaves: a law for each
 pub record LeafGrounds : Type 0 where
@@ -110,9 +111,20 @@ third_of first second third rest yes' = ap (λ tests. first || tests) (second_of
 fourth_of : (first second third fourth rest : Bool) → fourth ≡ true → (first || (second || (third || (fourth || rest)))) ≡ true
 fourth_of first second third fourth rest yes' = ap (λ tests. first || tests) (third_of second third fourth rest yes') ∙ or_true first
 
+-- leads that close a box for a latency close it for each greater one
+for_more : LeadsCloseForMore → WidenedIsScenario → RegionsWiden → (plan : Scenario) (box : Box) (latency more : ℕ) → IsScenario plan → IsBox plan box →
+    latency ≤ more → ClosesByLeads plan latency (any_order box) → ClosesByLeads plan more (any_order box)
+unfolding closes_from_origin
+for_more rises scenario regions plan box latency more lawful inside low closed =
+    let moved = widened plan in
+    let wide = widened_box plan box in
+    let ranges = AreRanges-box (ranges_of moved) wide (regions plan (any_order box) (box_is_region plan box inside)).inside in
+    let there : IsTrue (closes_by_leads moved wide latency) = subst IsTrue (closed_as_box moved wide latency) closed in
+    subst IsTrue (sym (closed_as_box moved wide more)) (rises moved wide latency more (scenario plan lawful) ranges low there)
+
 -- a leaf that is right closes its box, a lead leaf also for what is above the latency that it names
-pub right_closes : LeadsCloseForMore → RightLeavesClose
-right_closes more plan latency leaf box lawful inside below right = by_leaf leaf below right where
+pub right_closes : LeadsCloseForMore → WidenedIsScenario → RegionsWiden → RightLeavesClose
+right_closes rises scenario regions plan latency leaf box lawful inside below right = by_leaf leaf below right where
   fits : Node → Bool
   fits leaf = is_none (node_fault plan latency 0 leaf (any_order box))
 
@@ -126,7 +138,5 @@ right_closes more plan latency leaf box lawful inside below right = by_leaf leaf
   by_leaf Point below right = second_of (fits Bound) (fits Point) (fits Stamp || (fits (Lead latency) || false)) (fitting Point right)
   by_leaf Stamp below right = third_of (fits Bound) (fits Point) (fits Stamp) (fits (Lead latency) || false) (fitting Stamp right)
   by_leaf (Lead named) below right =
-      let named_closed : IsTrue (closes_by_leads plan box named) = subst IsTrue (closed_as_box plan box named) right.1 in
-      let box_closed = more plan box named latency lawful (AreRanges-box (ranges_of plan) box inside) right.0 named_closed in
-      let closed : ClosesByLeads plan latency (any_order box) = subst IsTrue (sym (closed_as_box plan box latency)) box_closed in
+      let closed = for_more rises scenario regions plan box named latency lawful inside right.0 right.1 in
       fourth_of (fits Bound) (fits Point) (fits Stamp) (fits (Lead latency)) false (fitting (Lead latency) (omega arith, closed))

@@ -21,7 +21,9 @@ use Rattle.convoy_sure.specs.SureLeads.{leads_of, sure_time}
 use Rattle.convoy_leads.specs.Leads.{is_led}
 use Rattle.convoy_leads.specs.Closing.{closes_by_leads}
 use Rattle.convoy_narrowing.specs.Narrowing.{closes_region}
-use Rattle.convoy_machine.specs.declared.event.Event.{Event}
+use Rattle.convoy_scenario.specs.Widened.{widened}
+use Rattle.convoy_origin.specs.WidenedBoxes.{range_in, widened_box}
+use Rattle.convoy_origin.specs.FromOrigin.{closes_from_origin, plain_from_origin, stamp_from_origin}
 use Rattle.convoy_machine.specs.declared.event.Event.TheVariants.{Look, Publish, Draw, Put, Take, Split, Close}
 use Rattle.convoy_machine.specs.declared.replaying.ReplayFault.{ReplayFault}
 use Rattle.convoy_machine.specs.declared.replaying.ReplayFault.TheVariants.{Unlawful}
@@ -45,44 +47,44 @@ told (Ok core) =
 told (Err fault) = Err fault
 
 closed_by_what_was_published : told (replayed base (Draw 0 ∷ Publish 0 threes ∷ Close 0 0 ∷ [])) ≡ Ok (12 ∷ 0 ∷ 1 ∷ 0 ∷ [])
-unfolding told threes base base_in base_with message packets_of ranges_of delay_of arrive settle arrival_rank commit_rank no_order moments_of clocks_of local_stamp final_stamp holds_back deliver latency_at latency_of plain_bound replayed
+unfolding told threes base base_in base_with message packets_of ranges_of delay_of arrive settle arrival_rank commit_rank no_order moments_of clocks_of local_stamp final_stamp holds_back deliver latency_at latency_of plain_bound widened widened_box range_in plain_from_origin replayed
 closed_by_what_was_published = refl
 
 closed_too_soon : told (replayed base (Draw 0 ∷ Close 0 0 ∷ [])) ≡ Err (Unlawful 1)
-unfolding told threes base base_in base_with message packets_of ranges_of delay_of arrive settle arrival_rank commit_rank no_order moments_of clocks_of local_stamp final_stamp holds_back deliver latency_at latency_of plain_bound reach_of stamp_bound leads_of sure_time is_led closes_by_leads closes_region replayed
+unfolding told threes base base_in base_with message packets_of ranges_of delay_of arrive settle arrival_rank commit_rank no_order moments_of clocks_of local_stamp final_stamp holds_back deliver latency_at latency_of plain_bound reach_of stamp_bound leads_of sure_time is_led closes_by_leads closes_region widened widened_box range_in plain_from_origin stamp_from_origin closes_from_origin replayed
 closed_too_soon = refl
 
 closed_without_ticket : told (replayed base (Publish 0 threes ∷ Close 0 0 ∷ [])) ≡ Err (Unlawful 1)
-unfolding told threes base base_in base_with message packets_of ranges_of delay_of arrive settle arrival_rank commit_rank no_order moments_of clocks_of local_stamp final_stamp holds_back deliver latency_at latency_of plain_bound replayed
+unfolding told threes base base_in base_with message packets_of ranges_of delay_of arrive settle arrival_rank commit_rank no_order moments_of clocks_of local_stamp final_stamp holds_back deliver latency_at latency_of plain_bound widened widened_box range_in plain_from_origin replayed
 closed_without_ticket = refl
 
 closed_unseen : told (replayed base (Publish 1 threes ∷ Draw 0 ∷ Close 0 0 ∷ [])) ≡ Err (Unlawful 2)
-unfolding told threes base base_in base_with message packets_of ranges_of delay_of arrive settle arrival_rank commit_rank no_order moments_of clocks_of local_stamp final_stamp holds_back deliver latency_at latency_of plain_bound reach_of stamp_bound leads_of sure_time is_led closes_by_leads closes_region replayed
+unfolding told threes base base_in base_with message packets_of ranges_of delay_of arrive settle arrival_rank commit_rank no_order moments_of clocks_of local_stamp final_stamp holds_back deliver latency_at latency_of plain_bound reach_of stamp_bound leads_of sure_time is_led closes_by_leads closes_region widened widened_box range_in plain_from_origin stamp_from_origin closes_from_origin replayed
 closed_unseen = refl
 
 closed_once_seen : told (replayed base (Publish 1 threes ∷ Look 0 ∷ Draw 0 ∷ Close 0 0 ∷ [])) ≡ Ok (12 ∷ 0 ∷ 1 ∷ 0 ∷ [])
-unfolding told threes base base_in base_with message packets_of ranges_of delay_of arrive settle arrival_rank commit_rank no_order moments_of clocks_of local_stamp final_stamp holds_back deliver latency_at latency_of plain_bound replayed
+unfolding told threes base base_in base_with message packets_of ranges_of delay_of arrive settle arrival_rank commit_rank no_order moments_of clocks_of local_stamp final_stamp holds_back deliver latency_at latency_of plain_bound widened widened_box range_in plain_from_origin replayed
 closed_once_seen = refl
 
 shared : told (replayed base (Draw 0 ∷ Split 0 0 4 1 ∷ Put 0 1 ∷ Take 1 1 ∷ Publish 0 threes ∷ Look 1 ∷ Draw 1 ∷ Close 1 1 ∷ Draw 0 ∷ Close 0 2 ∷ [])) ≡ Ok (12 ∷ 0 ∷ 2 ∷ 1 ∷ [])
-unfolding told threes base base_in base_with message packets_of ranges_of delay_of arrive settle arrival_rank commit_rank no_order moments_of clocks_of local_stamp final_stamp holds_back deliver latency_at latency_of plain_bound replayed
+unfolding told threes base base_in base_with message packets_of ranges_of delay_of arrive settle arrival_rank commit_rank no_order moments_of clocks_of local_stamp final_stamp holds_back deliver latency_at latency_of plain_bound widened widened_box range_in plain_from_origin replayed
 shared = refl
 
 shared_unseen : told (replayed base (Draw 0 ∷ Split 0 0 4 1 ∷ Put 0 1 ∷ Take 1 1 ∷ Publish 0 threes ∷ Draw 1 ∷ Close 1 1 ∷ Draw 0 ∷ Close 0 2 ∷ [])) ≡ Err (Unlawful 6)
-unfolding told threes base base_in base_with message packets_of ranges_of delay_of arrive settle arrival_rank commit_rank no_order moments_of clocks_of local_stamp final_stamp holds_back deliver latency_at latency_of plain_bound reach_of stamp_bound leads_of sure_time is_led closes_by_leads closes_region replayed
+unfolding told threes base base_in base_with message packets_of ranges_of delay_of arrive settle arrival_rank commit_rank no_order moments_of clocks_of local_stamp final_stamp holds_back deliver latency_at latency_of plain_bound reach_of stamp_bound leads_of sure_time is_led closes_by_leads closes_region widened widened_box range_in plain_from_origin stamp_from_origin closes_from_origin replayed
 shared_unseen = refl
 
 -- a worker past the last one, a branch that is not there, and a branch that was closed
 no_such_worker : told (replayed base (Draw 15 ∷ Draw 16 ∷ [])) ≡ Err (Unlawful 1)
-unfolding told threes base base_in base_with message packets_of ranges_of delay_of arrive settle arrival_rank commit_rank no_order moments_of clocks_of local_stamp final_stamp holds_back deliver latency_at latency_of plain_bound replayed
+unfolding told threes base base_in base_with message packets_of ranges_of delay_of arrive settle arrival_rank commit_rank no_order moments_of clocks_of local_stamp final_stamp holds_back deliver latency_at latency_of plain_bound widened widened_box range_in plain_from_origin replayed
 no_such_worker = refl
 
 no_such_branch : told (replayed base (Draw 0 ∷ Put 0 1 ∷ [])) ≡ Err (Unlawful 1)
-unfolding told threes base base_in base_with message packets_of ranges_of delay_of arrive settle arrival_rank commit_rank no_order moments_of clocks_of local_stamp final_stamp holds_back deliver latency_at latency_of plain_bound replayed
+unfolding told threes base base_in base_with message packets_of ranges_of delay_of arrive settle arrival_rank commit_rank no_order moments_of clocks_of local_stamp final_stamp holds_back deliver latency_at latency_of plain_bound widened widened_box range_in plain_from_origin replayed
 no_such_branch = refl
 
 closed_twice : told (replayed base (Draw 0 ∷ Draw 0 ∷ Publish 0 threes ∷ Close 0 0 ∷ Close 0 0 ∷ [])) ≡ Err (Unlawful 4)
-unfolding told threes base base_in base_with message packets_of ranges_of delay_of arrive settle arrival_rank commit_rank no_order moments_of clocks_of local_stamp final_stamp holds_back deliver latency_at latency_of plain_bound replayed
+unfolding told threes base base_in base_with message packets_of ranges_of delay_of arrive settle arrival_rank commit_rank no_order moments_of clocks_of local_stamp final_stamp holds_back deliver latency_at latency_of plain_bound widened widened_box range_in plain_from_origin replayed
 closed_twice = refl
 
 -- the record of eight delays 3 where the groups are the other way round, whose latency is 6: the plain bound is 12
@@ -93,17 +95,17 @@ sixes : Time → Record
 sixes time = attained_by (swapped_in time) (in_fixed_order (replicate 8 3))
 
 closed_by_stamps : told (replayed (swapped_in Ticks) (Draw 0 ∷ Publish 0 (sixes Ticks) ∷ Close 0 0 ∷ [])) ≡ Ok (6 ∷ 0 ∷ 1 ∷ 0 ∷ [])
-unfolding told sixes swapped_in swapped message packets_of ranges_of delay_of arrive settle arrival_rank commit_rank no_order moments_of clocks_of local_stamp final_stamp holds_back deliver latency_at latency_of plain_bound reach_of stamp_bound leads_of sure_time is_led closes_by_leads closes_region replayed
+unfolding told sixes swapped_in swapped message packets_of ranges_of delay_of arrive settle arrival_rank commit_rank no_order moments_of clocks_of local_stamp final_stamp holds_back deliver latency_at latency_of plain_bound reach_of stamp_bound leads_of sure_time is_led closes_by_leads closes_region widened widened_box range_in plain_from_origin stamp_from_origin closes_from_origin replayed
 closed_by_stamps = refl
 
 -- in real time stamps bound nothing, and leads close the same box
 closed_by_leads : told (replayed (swapped_in Real) (Draw 0 ∷ Publish 0 (sixes Real) ∷ Close 0 0 ∷ [])) ≡ Ok (6 ∷ 0 ∷ 1 ∷ 0 ∷ [])
-unfolding told sixes swapped_in swapped message packets_of ranges_of delay_of arrive settle arrival_rank commit_rank no_order moments_of clocks_of local_stamp final_stamp holds_back deliver latency_at latency_of plain_bound reach_of stamp_bound leads_of sure_time is_led closes_by_leads closes_region replayed
+unfolding told sixes swapped_in swapped message packets_of ranges_of delay_of arrive settle arrival_rank commit_rank no_order moments_of clocks_of local_stamp final_stamp holds_back deliver latency_at latency_of plain_bound reach_of stamp_bound leads_of sure_time is_led closes_by_leads closes_region widened widened_box range_in plain_from_origin stamp_from_origin closes_from_origin replayed
 closed_by_leads = refl
 
 -- a worker that has not seen the latency for which they do
 leads_too_soon : told (replayed (swapped_in Real) (Draw 0 ∷ Publish 1 (sixes Real) ∷ Close 0 0 ∷ [])) ≡ Err (Unlawful 2)
-unfolding told sixes swapped_in swapped message packets_of ranges_of delay_of arrive settle arrival_rank commit_rank no_order moments_of clocks_of local_stamp final_stamp holds_back deliver latency_at latency_of plain_bound reach_of stamp_bound leads_of sure_time is_led closes_by_leads closes_region replayed
+unfolding told sixes swapped_in swapped message packets_of ranges_of delay_of arrive settle arrival_rank commit_rank no_order moments_of clocks_of local_stamp final_stamp holds_back deliver latency_at latency_of plain_bound reach_of stamp_bound leads_of sure_time is_led closes_by_leads closes_region widened widened_box range_in plain_from_origin stamp_from_origin closes_from_origin replayed
 leads_too_soon = refl
 
 -- Each packet takes one tick, so the root is a point. t and x come to b in one tick, and y comes to a in the tick of t's commit there: its plain bound is 4 ticks, and its latency 2 where ties fall in the fixed order.
@@ -111,10 +113,10 @@ tied_in : Time → Scenario
 tied_in time = record tied { time = time }
 
 closed_as_point : told (replayed (tied_in Ticks) (Draw 0 ∷ Close 0 0 ∷ [])) ≡ Ok (2 ∷ 0 ∷ 1 ∷ 0 ∷ [])
-unfolding told tied_in tied message packets_of ranges_of delay_of arrive settle arrival_rank commit_rank no_order moments_of clocks_of local_stamp final_stamp holds_back deliver latency_at latency_of plain_bound reach_of stamp_bound leads_of sure_time is_led closes_by_leads closes_region replayed
+unfolding told tied_in tied message packets_of ranges_of delay_of arrive settle arrival_rank commit_rank no_order moments_of clocks_of local_stamp final_stamp holds_back deliver latency_at latency_of plain_bound reach_of stamp_bound leads_of sure_time is_led closes_by_leads closes_region widened widened_box range_in plain_from_origin stamp_from_origin closes_from_origin replayed
 closed_as_point = refl
 
 -- in real time the point has more runs than one, as ties are open
 not_closed_as_point : told (replayed (tied_in Real) (Draw 0 ∷ Close 0 0 ∷ [])) ≡ Err (Unlawful 1)
-unfolding told tied_in tied message packets_of ranges_of delay_of arrive settle arrival_rank commit_rank no_order moments_of clocks_of local_stamp final_stamp holds_back deliver latency_at latency_of plain_bound reach_of stamp_bound leads_of sure_time is_led closes_by_leads closes_region stages_of replayed
+unfolding told tied_in tied message packets_of ranges_of delay_of arrive settle arrival_rank commit_rank no_order moments_of clocks_of local_stamp final_stamp holds_back deliver latency_at latency_of plain_bound reach_of stamp_bound leads_of sure_time is_led closes_by_leads closes_region widened widened_box range_in plain_from_origin stamp_from_origin closes_from_origin stages_of replayed
 not_closed_as_point = refl

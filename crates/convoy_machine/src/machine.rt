@@ -11,7 +11,6 @@ ghost use Rattle.convoy_sim.specs.Record.{IsAttained};
 ghost use Rattle.convoy_intervals.specs.Boxes.{CanSplit, IsBox};
 ghost use Rattle.convoy_intervals.specs.Boxes.{lower_half, upper_half};
 ghost use Rattle.convoy_regions.specs.Regions.{Region, any_order, is_decided, run_of};
-ghost use Rattle.convoy_stamps.specs.StampBounds.{stamp_bound};
 ghost use Rattle.convoy_checker.specs.Checks.{in_ticks};
 ghost use Rattle.convoy_machine.specs.Machine.{after, allows, best_after, branch_at, branches_after};
 ghost use Rattle.convoy_machine.specs.Machine.{closes, is_free, is_lawful, taken, HasBranch};
@@ -21,14 +20,13 @@ ghost use Rattle.convoy_machine.specs.Replays.{IsFound, left_of};
 
 use super::event::Event;
 use super::parts::{Branch, BranchState, WORKERS, Worker};
-use convoy_intervals::{DelayBox, bound};
-use convoy_leads::closes_by_leads;
+use convoy_intervals::DelayBox;
+use convoy_origin::{Origin, closes_from_origin, plain_from_origin, stamp_from_origin};
 use convoy_packets::schedule_laws::least_is_assignment;
 use convoy_packets::{Instance, Schedule};
 use convoy_regions::{is_decided, run_latency};
 use convoy_scenario::{AllocResult, Scenario, Time};
 use convoy_sim::Record;
-use convoy_stamps::stamp_bound;
 use std::alloc::Global;
 use std::marker::Model;
 
@@ -120,30 +118,30 @@ impl Core {
     pub(crate) fn is_lawful(
         &self,
         alloc: Global,
-        instance: &Instance,
+        origin: &Origin,
         event: &Event,
     ) -> AllocResult<bool>
-        requires boxes { All (λ branch. IsBox instance.now branch.delay_box) self.now.branches }
-        ensures { IfOk result (λ lawful. lawful ≡ is_lawful instance.now self.now event.now) }
+        requires boxes { All (λ branch. IsBox origin.now branch.delay_box) self.now.branches }
+        ensures { IfOk result (λ lawful. lawful ≡ is_lawful origin.now self.now event.now) }
     {
         let worker = event.worker();
         if worker >= WORKERS {
             return Ok(false);
         }
-        self.allows(alloc, instance, &self.workers[worker], event)
+        self.allows(alloc, origin, &self.workers[worker], event)
     }
 
     /// Whether the state allows an event of that worker. The error is that memory ran out.
     fn allows(
         &self,
         alloc: Global,
-        instance: &Instance,
+        origin: &Origin,
         doer: &Worker,
         event: &Event,
     ) -> AllocResult<bool>
-        requires boxes { All (λ branch. IsBox instance.now branch.delay_box) self.now.branches }
+        requires boxes { All (λ branch. IsBox origin.now branch.delay_box) self.now.branches }
         requires doer { doer.now ≡ worker_at self.now.workers (worker_of event.now) }
-        ensures { IfOk result (λ allowed. allowed ≡ allows instance.now self.now event.now) }
+        ensures { IfOk result (λ allowed. allowed ≡ allows origin.now self.now event.now) }
     {
         let allowed = match event {
             Event::Look { .. } | Event::Publish { .. } | Event::Draw { .. } => true,
@@ -166,7 +164,7 @@ impl Core {
                 match self.held_by(*worker, *branch) {
                     None => false,
                     Some(delay_box) => {
-                        doer.has_ticket() && closes(alloc, instance, delay_box, doer.seen)?
+                        doer.has_ticket() && closes(alloc, origin, delay_box, doer.seen)?
                     }
                 }
             }
@@ -279,25 +277,21 @@ fn halves_of(delay_box: &DelayBox, packet: u16, at: u16) -> AllocResult<(DelayBo
 /// Whether a leaf of some kind closes the box for that latency, in ticks, whatever order ties fall in. Each
 /// kind is asked for where those that take less time do not close it. The error is that memory ran out.
 #[tactic(auto, using(crate::proofs::Closing::closes_is))]
-fn closes(
-    alloc: Global,
-    instance: &Instance,
-    delay_box: &DelayBox,
-    latency: u32,
-) -> AllocResult<bool>
-    requires inside { IsBox instance.now delay_box.now }
-    ensures { IfOk result (λ closed. closed ≡ closes instance.now latency delay_box.now) }
+fn closes(alloc: Global, origin: &Origin, delay_box: &DelayBox, latency: u32) -> AllocResult<bool>
+    requires inside { IsBox origin.now delay_box.now }
+    ensures { IfOk result (λ closed. closed ≡ closes origin.now latency delay_box.now) }
 {
-    if bound(instance, delay_box) <= latency {
+    let instance = origin.instance();
+    if plain_from_origin(alloc, origin, delay_box)? <= latency {
         return Ok(true);
     }
     if closes_as_point(alloc, instance, delay_box, latency)? {
         return Ok(true);
     }
-    if in_ticks(instance) && stamp_bound(alloc, instance, delay_box)? <= latency {
+    if in_ticks(instance) && stamp_from_origin(alloc, origin, delay_box)? <= latency {
         return Ok(true);
     }
-    closes_by_leads(alloc, instance, delay_box, latency)
+    closes_from_origin(alloc, origin, delay_box, &[], latency)
 }
 
 /// Whether the box has one delay for each packet and leaves no tie open, and the latency of its one run

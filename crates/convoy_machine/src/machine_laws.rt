@@ -4,6 +4,8 @@
 ghost use Rattle.convoy_machine.specs.MachineLaws.{RightLeavesClose};
 
 use convoy_laws::monotone::leads_close_for_more;
+use convoy_origin::widened_laws::regions_widen;
+use convoy_scenario::widened_laws::widened_is_scenario;
 
 /// A worker that has seen a latency may close each box over which some leaf is right in a certificate
 /// of that latency.
@@ -11,4 +13,6 @@ pub fn right_leaves_close()
     ensures { RightLeavesClose }
 {
     leads_close_for_more();
+    widened_is_scenario();
+    regions_widen();
 }

@@ -9,6 +9,7 @@ use super::event::Event;
 use super::machine::Core;
 use convoy_checker::tree_laws::leaves_cover;
 use convoy_intervals::box_laws::{halves_are_boxes, halves_partition, root_holds_all, root_is_box};
+use convoy_origin::Origin;
 use convoy_packets::Instance;
 use std::alloc::{AllocError, Global};
 use thiserror::Error;
@@ -41,9 +42,10 @@ pub fn replay(alloc: Global, instance: &Instance, events: &[Event]) -> Result<Co
     halves_are_boxes();
     halves_partition();
     leaves_cover();
+    let origin = Origin::of(alloc, instance)?;
     let mut core = Core::start(alloc, instance)?;
     for (place, event) in events.iter().enumerate() {
-        if !core.is_lawful(alloc, instance, event)? {
+        if !core.is_lawful(alloc, &origin, event)? {
             return Err(ReplayFault::Unlawful(place));
         }
         core.follow(event)?;

@@ -1,7 +1,6 @@
 -- A draft and the same draft with its groups listed in another order give scenarios that are one but for the numbers of the groups.
 use Rattle.std.proofs.Common.{◌≡◌, ℕ, ◌<◌, ◌==◌, ◌&&◌, Bool, true, List, [], ◌∷◌, length, get_or, map, Ok, inl, inr, refl, sym, ap, ap₂, subst₂, ◌∙◌, arith}
 use Rattle.std.specs.List.{find, list_all}
-use Rattle.std.specs.Result.{result_and}
 use Rattle.std.proofs.lemmas.Bool.{cases_Bool, cases_lt, and_parts}
 use Rattle.std.proofs.lemmas.List.{length-map, get_or-map, get_or_past}
 use Rattle.std.proofs.lemmas.List.Sorted.{IsPermutation-sym, length_permutation}
@@ -12,7 +11,7 @@ use Rattle.convoy_scenario.specs.declared.sender.Sender.{Sender}
 use Rattle.convoy_scenario.specs.Scenario.{Scenario, is_same_sender, message_at, no_message, range_between}
 use Rattle.convoy_scenario.specs.ScenarioLaws.{OrderKeepsRanges}
 use Rattle.convoy_scenario.specs.Numbering.{delay_of_draft, link_of, links_of_draft, message_of, place, scenario_of, scenario_of_draft}
-use Rattle.convoy_scenario.proofs.GivenScenarios.{passed}
+use Rattle.convoy_scenario.proofs.GivenScenarios.{given, passed}
 use Rattle.convoy_scenario.proofs.KeptRanges.{leads, range_found}
 use Rattle.convoy_scenario.proofs.NumberedLemmas.{Passes, groups_distinct, nothing, passes}
 use Rattle.convoy_orders.specs.Renumbered.{IsRenumbered, IsRenumberedMessage, renumbered_sender}
@@ -121,7 +120,7 @@ is_given kept draft plan is =
       rules = p.0;
       passes = passes draft p.0;
       made = p.1;
-      kept = λ sender to. kept draft (scenario_of draft) sender to (ap (λ r. result_and r (Ok (scenario_of draft))) p.0);
+      kept = λ sender to. kept draft (scenario_of draft) sender to (given draft p.0 p.2);
     }
 
 pub drafts_renumbered : OrderKeepsRanges → RelistedDraftsAreRenumbered

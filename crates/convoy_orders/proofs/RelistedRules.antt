@@ -1,10 +1,10 @@
 -- The rules for a scenario hold of a draft with its groups listed in another order.
-use Rattle.std.proofs.Common.{◌≡◌, ℕ, ◌&&◌, Bool, true, false, nat_le, drop, List, [], ◌∷◌, inl, inr, Option, Some, None, Ok, refl, sym, ap, ◌∙◌}
+use Rattle.std.proofs.Common.{◌≡◌, ℕ, zero, suc, ◌&&◌, Bool, true, false, nat_le, drop, get_or, map, List, [], ◌∷◌, inl, inr, Option, Some, None, Ok, refl, sym, ap, ◌∙◌, arith}
 use Rattle.std.specs.List.{list_all, AllByRecursion, IsDistinct}
 use Rattle.std.specs.List.Sorted.{IsPermutation}
-use Rattle.std.specs.Result.{result_and}
 use Rattle.std.specs.Str.{bytes_eq}
 use Rattle.std.proofs.lemmas.Bool.{and_from, and_parts, both_ways, cases_Bool, false_from_ne_true}
+use Rattle.std.proofs.lemmas.List.{length-map}
 use Rattle.std.proofs.lemmas.List.Sorted.{All-permutation, IsPermutation-sym, length_permutation}
 use Rattle.std.proofs.lemmas.List.Sums.{AllPass-from_list_all, list_all-from_AllPass}
 use Rattle.std.proofs.lemmas.Map.Keys.{IsDistinct-IsPermutation}
@@ -12,10 +12,13 @@ use Rattle.convoy_draft.specs.Draft.{Draft, DraftLink, DraftMessage}
 use Rattle.convoy_draft.specs.declared.limits.TheConstants.{MOST_GROUPS}
 use Rattle.convoy_draft.specs.Names.{is_group_name}
 use Rattle.convoy_draft.specs.Checks.{Check, all_differ, checks, is_among, is_count, is_known_sender, judge, knows, knows_link, reference_checks}
-use Rattle.convoy_scenario.specs.Numbering.{scenario_of}
-use Rattle.convoy_scenario.proofs.GivenScenarios.{passed}
+use Rattle.convoy_scenario.specs.Numbering.{message_of, scenario_of}
+use Rattle.convoy_scenario.specs.Room.{HasRoom}
+use Rattle.convoy_scenario.specs.Scenario.{no_message}
+use Rattle.convoy_scenario.proofs.GivenScenarios.{given, passed}
 use Rattle.convoy_scenario.proofs.NumberedAgain.{itself, same_bytes}
 use Rattle.convoy_scenario.proofs.NumberedLemmas.{all_hold, groups_distinct}
+use Rattle.convoy_scenario.proofs.RoomLemmas.{room_from, room_told}
 use Rattle.convoy_sim.proofs.Membership.{all-in, in_of_list_any}
 use Rattle.convoy_orders.specs.Relisted.{relisted, RelistedDraftsGiveScenarios}
 use Rattle.convoy_orders.proofs.RelistedNames.{all_among}
@@ -90,7 +93,29 @@ rules_hold draft names same h =
     rw (limits.0, count, limits.1.1.0, limits.1.1.1.0, limits.1.1.1.1.0, limits.1.1.1.1.1.0, limits.1.1.1.1.1.1.0)
     (rw (names_are, named.1.0, differ, named.1.1.1.0, named.1.1.1.1.0, messages, target, links) others)
 
+-- messages are issued at the same ticks, whatever the order of the groups
+times_too : (groups names : List (List ℕ)) (messages : List DraftMessage) (m : ℕ)
+    → ((get_or (map (message_of names) messages) m no_message).at ≡ (get_or (map (message_of groups) messages) m no_message).at)
+    × ((get_or (map (message_of names) messages) m no_message).longest_wait ≡ (get_or (map (message_of groups) messages) m no_message).longest_wait)
+times_too groups names [] m = (refl, refl)
+times_too groups names (message ∷ messages) zero = (refl, refl)
+times_too groups names (message ∷ messages) (suc m) = times_too groups names messages m
+
+-- so the target has as much room
+room_too : (draft : Draft) (names : List (List ℕ)) → HasRoom (scenario_of draft) → HasRoom (scenario_of (relisted names draft))
+room_too draft names room =
+    let at = times_too draft.groups names draft.messages (scenario_of draft).target_message in
+    let last = room.last in
+    record {
+      last = omega (arith, at.0, at.1, last);
+      others = λ m d l.
+          let here = times_too draft.groups names draft.messages m in
+          let most = room.others m d (omega (arith, l, length-map draft.messages (message_of names), length-map draft.messages (message_of draft.groups))) in
+          omega (arith, here.1, at.1, most);
+    }
+
 pub drafts_too : RelistedDraftsGiveScenarios
 drafts_too draft names plan is same =
     let mine = passed (judge (checks draft)) (scenario_of draft) plan is in
-    ap (λ r. result_and r (Ok (scenario_of (relisted names draft)))) (rules_hold draft names same mine.0)
+    given (relisted names draft) (rules_hold draft names same mine.0)
+    (room_from (scenario_of (relisted names draft)) (room_too draft names (room_told (scenario_of draft) mine.2)))

@@ -18,10 +18,11 @@ use Rattle.convoy_sim.specs.Delivery.{latency_at, latency_of}
 use Rattle.convoy_sim.proofs.Addressed.{number_of_goes}
 use Rattle.convoy_intervals.specs.Boxes.{Box, IsBox, IsIn}
 use Rattle.convoy_intervals.proofs.Members.{AreWithin-outer}
-use Rattle.convoy_laws.proofs.Lists.{all_zip_made}
-use Rattle.convoy_laws.proofs.PacketDelays.{delay_at_place, sent_of_in, unsent_if_nowhere}
+use Rattle.convoy_origin.proofs.Lists.{all_zip_made}
+use Rattle.convoy_origin.proofs.PacketDelays.{delay_at_place, sent_of_in, unsent_if_nowhere}
 use Rattle.convoy_origin.specs.Later.{IssuesLater}
-use Rattle.convoy_origin.specs.Widened.{HasTarget, target_wait, widened}
+use Rattle.convoy_scenario.specs.Widened.{target_wait, widened}
+use Rattle.convoy_origin.specs.Widened.{HasTarget}
 use Rattle.convoy_origin.specs.WidenedBoxes.{range_in, widened_box, widened_range}
 use Rattle.convoy_origin.specs.WidenedRegions.{StandOnce, WidenedIsExact}
 use Rattle.convoy_origin.proofs.LaterRuns.{run_later}

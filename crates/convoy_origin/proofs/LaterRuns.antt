@@ -14,9 +14,9 @@ use Rattle.convoy_sim.specs.Stamps.{is_less, local_stamp, final_stamp}
 use Rattle.convoy_sim.specs.Delivery.{addressed_to, holds_back, is_free, deliver, latency_at}
 use Rattle.convoy_sim.proofs.Membership.{IsIn}
 use Rattle.convoy_sim.proofs.Addressed.{in_of_goes, goes_from_in, goes_of_addressed}
-use Rattle.convoy_laws.proofs.Lists.{filter_same}
-use Rattle.convoy_laws.proofs.SameRun.{IsMoved, moment_at, moments_are, same_local, same_final}
-use Rattle.convoy_laws.proofs.Delivered.{delivered_by, delivered_free}
+use Rattle.convoy_origin.proofs.Lists.{filter_same}
+use Rattle.convoy_origin.proofs.SameRun.{IsMoved, moment_at, moments_are, same_local, same_final}
+use Rattle.convoy_origin.proofs.Delivered.{delivered_by, delivered_free}
 use Rattle.convoy_origin.specs.Later.{IssuesLater, RunsLater, RunsShift, moment_later}
 
 -- ---- numbers and lists

@@ -1,8 +1,9 @@
 -- Worked rows: a scenario in which the target may wait, its widened scenario, and what would be told if only half of it were widened.
-use Rattle.std.proofs.Common.{◌≡◌, true, false, [], ◌∷◌, replicate, codes, refl}
+use Rattle.std.proofs.Common.{◌≡◌, ℕ, true, false, [], ◌∷◌, replicate, codes, refl}
 use Rattle.convoy_draft.specs.declared.time.Time.TheVariants.{Ticks}
 use Rattle.convoy_scenario.specs.declared.sender.Sender.TheVariants.{Client, Group}
 use Rattle.convoy_scenario.specs.Scenario.{Scenario}
+use Rattle.convoy_scenario.specs.Targets.{targets_of}
 use Rattle.convoy_packets.specs.Packets.{packets_of}
 use Rattle.convoy_packets.specs.Order.{no_order}
 use Rattle.convoy_packets.specs.Assignment.{delay_of, in_fixed_order, ranges_of}
@@ -20,7 +21,9 @@ use Rattle.convoy_leads.specs.Leads.{is_led}
 use Rattle.convoy_leads.specs.Closing.{closes_by_leads}
 use Rattle.convoy_narrowing.specs.Narrowing.{closes_region}
 use Rattle.convoy_scenario.proofs.RowScenarios.{message, of_two}
-use Rattle.convoy_origin.specs.Widened.{widened, widened_schedule}
+use Rattle.convoy_origin.specs.FromOrigin.{closes_from_origin, plain_from_origin, stamp_from_origin}
+use Rattle.convoy_scenario.specs.Widened.{widened}
+use Rattle.convoy_origin.specs.Widened.{widened_schedule}
 use Rattle.convoy_origin.specs.WidenedBoxes.{range_in, widened_box}
 use Rattle.convoy_origin.specs.WidenedRegions.{widened_region}
 
@@ -71,6 +74,23 @@ widened_stays_open : closes_region (widened open_start) (widened_region open_sta
 unfolding open_start message packets_of ranges_of delay_of arrive settle leads_of sure_time is_led closes_by_leads closes_region widened widened_box range_in
 widened_stays_open = refl
 
+-- ---- so each bound of the root, counted from t's issue whenever that is, is 12
+plain_told : plain_from_origin open_start (root_of open_start) ≡ 12
+unfolding open_start message packets_of ranges_of delay_of arrive settle plain_bound widened widened_box range_in plain_from_origin
+plain_told = refl
+
+stamp_told : stamp_from_origin open_start (root_of open_start) ≡ 12
+unfolding open_start message packets_of ranges_of delay_of arrive settle reach_of stamp_bound widened widened_box range_in stamp_from_origin
+stamp_told = refl
+
+leads_told : closes_from_origin open_start (root_region open_start) 12 ≡ true
+unfolding open_start message packets_of ranges_of delay_of arrive settle leads_of sure_time is_led closes_by_leads closes_region widened widened_box range_in closes_from_origin
+leads_told = refl
+
+root_stays_open : closes_from_origin open_start (root_region open_start) 11 ≡ false
+unfolding open_start message packets_of ranges_of delay_of arrive settle leads_of sure_time is_led closes_by_leads closes_region widened widened_box range_in closes_from_origin
+root_stays_open = refl
+
 -- ---- with t at tick 1, and x and y at their ticks alone, each would be 11, which is exceeded
 unfoldable others_as_they_are : Scenario
 others_as_they_are =
@@ -97,3 +117,25 @@ plain_of_late = refl
 plain_of_early : plain_bound (widened open_start) (widened_box open_start ((1, 3) ∷ (0, 0) ∷ replicate 7 (1, 3))) ≡ 12
 unfolding open_start message packets_of delay_of arrive settle plain_bound widened widened_box range_in
 plain_of_early = refl
+
+-- ---- other targets, and the widened scenario: x is issued at tick 0, t may wait so long from then, and y so long from tick 6
+abbrev both_wait : ℕ → ℕ → Scenario
+both_wait y t =
+    of_two Ticks 3 (message (codes "x") Client (1 ∷ []) 0 ∷ record (message (codes "t") Client (0 ∷ 1 ∷ []) 0) { longest_wait = t }
+    ∷ record (message (codes "y") (Group 0) (0 ∷ 1 ∷ []) 6) { longest_wait = y } ∷ []) 1 0
+
+-- x alone has room where the windows of t and y are too long together
+few_targets : targets_of (record (both_wait 3 65533) { target_message = 0; target_group = 1 }) ≡ (0, 1) ∷ []
+unfolding message
+few_targets = refl
+
+all_targets : targets_of (both_wait 3 65532) ≡ (0, 1) ∷ (1, 0) ∷ (1, 1) ∷ (2, 0) ∷ (2, 1) ∷ []
+unfolding message
+all_targets = refl
+
+-- t is issued at 2, and each other message may wait 2 ticks longer
+target_at_its_end : widened (both_wait 3 2)
+    ≡ of_two Ticks 3 (record (message (codes "x") Client (1 ∷ []) 0) { longest_wait = 2 } ∷ message (codes "t") Client (0 ∷ 1 ∷ []) 2
+    ∷ record (message (codes "y") (Group 0) (0 ∷ 1 ∷ []) 6) { longest_wait = 5 } ∷ []) 1 0
+unfolding widened message
+target_at_its_end = refl

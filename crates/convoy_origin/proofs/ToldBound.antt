@@ -10,8 +10,9 @@ use Rattle.convoy_sim.proofs.Membership.{IsIn as IsAmong, filter_keeps, filter_d
 use Rattle.convoy_sim.proofs.Addressed.{goes_of_addressed, number_of_goes}
 use Rattle.convoy_intervals.specs.Boxes.{Box, IsBox}
 use Rattle.convoy_intervals.specs.Bounds.{Tables, plain_bound, rivals, tables_of}
-use Rattle.convoy_laws.proofs.Lists.{filter_same}
-use Rattle.convoy_origin.specs.Widened.{HasTarget, target_wait, widened}
+use Rattle.convoy_origin.proofs.Lists.{filter_same}
+use Rattle.convoy_scenario.specs.Widened.{target_wait, widened}
+use Rattle.convoy_origin.specs.Widened.{HasTarget}
 use Rattle.convoy_origin.specs.WidenedBoxes.{range_in, widened_box}
 use Rattle.convoy_origin.specs.WidenedTables.{AreMoved, PlainBoundIsTold, other_rivals, plain_bound_told}
 use Rattle.convoy_origin.proofs.LaterRuns.{plus_greatest}

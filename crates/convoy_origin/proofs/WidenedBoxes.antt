@@ -14,9 +14,10 @@ use Rattle.convoy_packets.specs.ScheduleLaws.{is_sent}
 use Rattle.convoy_packets.proofs.Places.{stands_where_found}
 use Rattle.convoy_packets.proofs.Sent.{found_if_sent}
 use Rattle.convoy_intervals.specs.Boxes.{Box, IsBox, IsIn, IsInside, root_of}
-use Rattle.convoy_laws.proofs.Lists.{all_zip_made}
-use Rattle.convoy_laws.proofs.PacketDelays.{delay_at_place, no_delay, sent_of_in, unsent_if_nowhere}
-use Rattle.convoy_origin.specs.Widened.{target_wait, widened, widened_delay, widened_schedule}
+use Rattle.convoy_origin.proofs.Lists.{all_zip_made}
+use Rattle.convoy_origin.proofs.PacketDelays.{delay_at_place, no_delay, sent_of_in, unsent_if_nowhere}
+use Rattle.convoy_scenario.specs.Widened.{target_wait, widened}
+use Rattle.convoy_origin.specs.Widened.{widened_delay, widened_schedule}
 use Rattle.convoy_origin.specs.WidenedBoxes.{InnerBoxesWiden, range_in, widened_box, widened_range}
 use Rattle.convoy_origin.proofs.LaterRuns.{map_same_in}
 use Rattle.convoy_origin.proofs.WidenedParts.{is_widened, same_sent, waits_there}
@@ -137,7 +138,7 @@ module _ (plan : Scenario) (ranges : Box) where
       subst₂ IsInside (sym ((is_widened plan).ranges p travels)) (sym (range_stays p travels))
       (inside_sent p is (sym (same_sent plan (widened plan) (is_widened plan) p travels) ∙ sent))
 
-  range_inside : (p : Packet) → IsBox plan ranges → is_sent (widened plan) p ≡ true → IsInside (range_of (widened plan) p) (widened_range plan ranges p)
+  pub range_inside : (p : Packet) → IsBox plan ranges → is_sent (widened plan) p ≡ true → IsInside (range_of (widened plan) p) (widened_range plan ranges p)
   range_inside (Wait m) is sent = wait_inside m is sent
   range_inside (Multicast m g) is sent = travel_inside (Multicast m g) is refl sent
   range_inside (Propose m h g) is sent = travel_inside (Propose m h g) is refl sent

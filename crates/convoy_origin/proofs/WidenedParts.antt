@@ -12,42 +12,15 @@ use Rattle.convoy_packets.specs.Packets.{is_wait}
 use Rattle.convoy_packets.specs.Assignment.{range_of}
 use Rattle.convoy_packets.specs.ScheduleLaws.{is_sent}
 use Rattle.convoy_origin.specs.Later.{AreAlike}
-use Rattle.convoy_origin.specs.Widened.{target_wait, widened_message, widened}
+use Rattle.convoy_scenario.specs.Widened.{target_wait, widened_message, widened}
+use Rattle.convoy_scenario.proofs.WidenedLemmas.{at_end, many, message_is, message_past, same_destinations, still, waits_longer}
 
--- ---- one message
-pub at_end : (wait t m : ℕ) (x : Message) → m ≡ t → widened_message wait t m x ≡ record x { at = x.at + wait; longest_wait = 0 }
-at_end wait t m x e = cond-true (m == t) _ _ (eq-eqb m t e)
-
-pub waits_longer : (wait t m : ℕ) (x : Message) → m ≢ t → widened_message wait t m x ≡ record x { longest_wait = x.longest_wait + wait }
-waits_longer wait t m x d = cond-false (m == t) _ _ (ne_eqb m t d)
-
+-- ---- the widened scenario beside the scenario
 sender_stays : (wait t m : ℕ) (x : Message) → (widened_message wait t m x).sender ≡ x.sender
 sender_stays wait t m x = elim (cases_eq m t) [
   | inl e ↦ ap (λ (y : Message). y.sender) (at_end wait t m x e)
   | inr d ↦ ap (λ (y : Message). y.sender) (waits_longer wait t m x d)
 ]
-
-destinations_stay : (wait t m : ℕ) (x : Message) → (widened_message wait t m x).destinations ≡ x.destinations
-destinations_stay wait t m x = elim (cases_eq m t) [
-  | inl e ↦ ap (λ (y : Message). y.destinations) (at_end wait t m x e)
-  | inr d ↦ ap (λ (y : Message). y.destinations) (waits_longer wait t m x d)
-]
-
--- ---- all messages
-abbrev pub all_widened : ℕ → ℕ → ℕ → List Message → List Message
-all_widened wait t n xs = map (λ p. widened_message wait t p.0 p.1) (enumerate_from n xs)
-
-pub as_many : (wait t n : ℕ) (xs : List Message) → length (all_widened wait t n xs) ≡ length xs
-as_many wait t n [] = refl
-as_many wait t n (x ∷ xs) = ap suc (as_many wait t (n + 1) xs)
-
-widened_at : (wait t n : ℕ) (xs : List Message) (i : ℕ) → i < length xs
-    → get_or (all_widened wait t n xs) i no_message ≡ widened_message wait t (n + i) (get_or xs i no_message)
-widened_at wait t n [] i l = absurd (omega arith)
-widened_at wait t n (x ∷ xs) zero l = let same : n ≡ n + 0 = omega arith in ap (λ k. widened_message wait t k x) same
-widened_at wait t n (x ∷ xs) (suc i) l =
-    let same : n + 1 + i ≡ n + suc i = omega arith in
-    widened_at wait t (n + 1) xs i (omega arith) ∙ ap (λ k. widened_message wait t k (get_or xs i no_message)) same
 
 -- what the widened scenario says, beside the scenario
 pub record IsWidened (plan wide : Scenario) : Type 0 where
@@ -71,40 +44,16 @@ module _ (plan : Scenario) where
   abbrev target : ℕ
   target = plan.target_message
 
-  pub message_is : (m : ℕ) → m < length plan.multicasts → message_at (widened plan) m ≡ widened_message wait target m (message_at plan m)
-  unfolding widened
-  message_is m l =
-      let same : 0 + m ≡ m = omega arith in
-      widened_at wait target 0 plan.multicasts m l ∙ ap (λ k. widened_message wait target k (message_at plan m)) same
-
-  message_past : (m : ℕ) → length plan.multicasts ≤ m → message_at (widened plan) m ≡ no_message
-  unfolding widened
-  message_past m l =
-      let many = as_many wait target 0 plan.multicasts in
-      get_or_past (all_widened wait target 0 plan.multicasts) m no_message (omega arith)
-
   same_senders : (m : ℕ) → (message_at (widened plan) m).sender ≡ (message_at plan m).sender
   same_senders m = elim (cases_lt m (length plan.multicasts)) [
-    | inl l ↦ ap (λ (y : Message). y.sender) (message_is m l) ∙ sender_stays wait target m (message_at plan m)
-    | inr l ↦ ap (λ (y : Message). y.sender) (message_past m l ∙ sym (get_or_past plan.multicasts m no_message l))
-  ]
-
-  pub same_destinations : (m : ℕ) → (message_at (widened plan) m).destinations ≡ (message_at plan m).destinations
-  same_destinations m = elim (cases_lt m (length plan.multicasts)) [
-    | inl l ↦ ap (λ (y : Message). y.destinations) (message_is m l) ∙ destinations_stay wait target m (message_at plan m)
-    | inr l ↦ ap (λ (y : Message). y.destinations) (message_past m l ∙ sym (get_or_past plan.multicasts m no_message l))
-  ]
-
-  pub fixed : (message_at (widened plan) target).longest_wait ≡ 0
-  fixed = elim (cases_lt target (length plan.multicasts)) [
-    | inl l ↦ ap (λ (y : Message). y.longest_wait) (message_is target l ∙ at_end wait target target (message_at plan target) refl)
-    | inr l ↦ ap (λ (y : Message). y.longest_wait) (message_past target l)
+    | inl l ↦ ap (λ (y : Message). y.sender) (message_is plan m l) ∙ sender_stays wait target m (message_at plan m)
+    | inr l ↦ ap (λ (y : Message). y.sender) (message_past plan m l ∙ sym (get_or_past plan.multicasts m no_message l))
   ]
 
   at_stays : (m : ℕ) → m ≢ target → (message_at (widened plan) m).at ≡ (message_at plan m).at
   at_stays m d = elim (cases_lt m (length plan.multicasts)) [
-    | inl l ↦ ap (λ (y : Message). y.at) (message_is m l ∙ waits_longer wait target m (message_at plan m) d)
-    | inr l ↦ ap (λ (y : Message). y.at) (message_past m l ∙ sym (get_or_past plan.multicasts m no_message l))
+    | inl l ↦ ap (λ (y : Message). y.at) (message_is plan m l ∙ waits_longer wait target m (message_at plan m) d)
+    | inr l ↦ ap (λ (y : Message). y.at) (message_past plan m l ∙ sym (get_or_past plan.multicasts m no_message l))
   ]
 
   alike : AreAlike plan (widened plan)
@@ -112,8 +61,8 @@ module _ (plan : Scenario) where
   alike = record {
     time = refl;
     groups = refl;
-    count = as_many wait target 0 plan.multicasts;
-    destinations = same_destinations;
+    count = many plan;
+    destinations = same_destinations plan;
   }
 
   between_stays : (sender : Sender) (g : ℕ) → range_between (widened plan) sender g ≡ range_between plan sender g
@@ -138,11 +87,11 @@ module _ (plan : Scenario) where
     alike = alike;
     senders = same_senders;
     ranges = ranges_stay;
-    target_at = λ l. ap (λ (y : Message). y.at) (message_is target l ∙ at_end wait target target (message_at plan target) refl);
-    target_fixed = fixed;
+    target_at = λ l. ap (λ (y : Message). y.at) (message_is plan target l ∙ at_end wait target target (message_at plan target) refl);
+    target_fixed = still plan;
     other_at = at_stays;
-    other_wait = λ m d l. ap (λ (y : Message). y.longest_wait) (message_is m l ∙ waits_longer wait target m (message_at plan m) d);
-    past = λ m l. ap (λ (y : Message). y.longest_wait) (message_past m l);
+    other_wait = λ m d l. ap (λ (y : Message). y.longest_wait) (message_is plan m l ∙ waits_longer wait target m (message_at plan m) d);
+    past = λ m l. ap (λ (y : Message). y.longest_wait) (message_past plan m l);
     target_message = target_stays;
     target_group = group_stays;
   }

@@ -4,7 +4,8 @@ use Rattle.convoy_scenario.specs.Scenario.{Scenario}
 use Rattle.convoy_regions.specs.declared.stage.Stage.{Stage}
 use Rattle.convoy_regions.specs.Stages.{IsPrecedence, IsStage, Precedence}
 use Rattle.convoy_regions.specs.Regions.{any_order}
-use Rattle.convoy_origin.specs.Widened.{widened, widened_schedule}
+use Rattle.convoy_scenario.specs.Widened.{widened}
+use Rattle.convoy_origin.specs.Widened.{widened_schedule}
 use Rattle.convoy_origin.specs.WidenedRegions.{ClosedByWidened, MembersWiden, RegionsWiden, RootWidens}
 use Rattle.convoy_origin.proofs.LaterStages.{kept_later}
 use Rattle.convoy_origin.proofs.WidenedParts.{is_widened, same_addressed}

@@ -16,10 +16,11 @@ use Rattle.convoy_packets.proofs.Ranges.{no_time_if_unsent, wait_at_most, within
 use Rattle.convoy_sim.specs.Times.{issue}
 use Rattle.convoy_sim.specs.Delivery.{latency_at, latency_of}
 use Rattle.convoy_sim.proofs.Addressed.{number_of_goes}
-use Rattle.convoy_laws.proofs.Lists.{all_zip_made}
-use Rattle.convoy_laws.proofs.PacketDelays.{delay_at_place, sent_of_in, unsent_if_nowhere}
+use Rattle.convoy_origin.proofs.Lists.{all_zip_made}
+use Rattle.convoy_origin.proofs.PacketDelays.{delay_at_place, sent_of_in, unsent_if_nowhere}
 use Rattle.convoy_origin.specs.Later.{IssuesLater, RunsLater}
-use Rattle.convoy_origin.specs.Widened.{AssignmentsWiden, HasTarget, UpperOfWidened, target_wait, widened, widened_delay, widened_schedule}
+use Rattle.convoy_scenario.specs.Widened.{target_wait, widened}
+use Rattle.convoy_origin.specs.Widened.{AssignmentsWiden, HasTarget, UpperOfWidened, widened_delay, widened_schedule}
 use Rattle.convoy_origin.proofs.LaterRuns.{run_later}
 use Rattle.convoy_origin.proofs.WidenedParts.{IsWidened, is_widened, same_addressed, same_sent, waits_there}
 

@@ -16,8 +16,8 @@ use Rattle.convoy_sim.specs.Times.{issue, arrive, settle, propose_arrive}
 use Rattle.convoy_sim.proofs.Membership.{IsIn as IsAmong}
 use Rattle.convoy_sim.proofs.Addressed.{in_of_goes, number_of_goes}
 use Rattle.convoy_intervals.specs.Boxes.{Box, IsBox}
-use Rattle.convoy_laws.proofs.PacketDelays.{delay_at_place, no_delay, unsent_if_nowhere}
-use Rattle.convoy_origin.specs.Widened.{target_wait, widened}
+use Rattle.convoy_origin.proofs.PacketDelays.{delay_at_place, no_delay, unsent_if_nowhere}
+use Rattle.convoy_scenario.specs.Widened.{target_wait, widened}
 use Rattle.convoy_origin.specs.WidenedBoxes.{range_in, target_range, widened_box, widened_range}
 use Rattle.convoy_origin.specs.WidenedTables.{AreMoved, TablesWiden}
 use Rattle.convoy_origin.proofs.LaterRuns.{plus_greatest}

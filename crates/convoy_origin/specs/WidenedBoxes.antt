@@ -1,13 +1,13 @@
 -- Boxes of the widened scenario.
 use Rattle.std.specs.Prelude.{ℕ, ◌+◌, ◌-◌, map}
+use Rattle.std.specs.List.{AllZip}
 use Rattle.std.specs.Option.{option_map_or}
 use Rattle.convoy_scenario.specs.Scenario.{Scenario}
 use Rattle.convoy_packets.specs.declared.packet.Packet.{Packet}
 use Rattle.convoy_packets.specs.declared.packet.Packet.TheVariants.{Wait, Multicast, Propose}
 use Rattle.convoy_packets.specs.Packets.{packets_of, place_of}
-use Rattle.convoy_intervals.specs.Boxes.{Box, range_at}
-use Rattle.convoy_laws.specs.Narrower.{IsInsideBox}
-use Rattle.convoy_origin.specs.Widened.{target_wait, widened}
+use Rattle.convoy_intervals.specs.Boxes.{Box, IsInside, range_at}
+use Rattle.convoy_scenario.specs.Widened.{target_wait, widened}
 
 -- the range of a packet in a box; what is no packet takes no time
 unfoldable pub range_in : Scenario → Box → Packet → ℕ × ℕ
@@ -34,5 +34,5 @@ widened_box scenario ranges = map (widened_range scenario ranges) (packets_of (w
 abbrev pub InnerBoxesWiden : Type 0
 InnerBoxesWiden =
     (scenario : Scenario) (outer inner : Box)
-    → IsInsideBox outer inner
-    → IsInsideBox (widened_box scenario outer) (widened_box scenario inner)
+    → AllZip IsInside outer inner
+    → AllZip IsInside (widened_box scenario outer) (widened_box scenario inner)

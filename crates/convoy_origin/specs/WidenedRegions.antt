@@ -11,9 +11,9 @@ use Rattle.convoy_intervals.specs.Bounds.{plain_bound}
 use Rattle.convoy_stamps.specs.StampBounds.{stamp_bound}
 use Rattle.convoy_regions.specs.Regions.{IsMember, IsRegion, Region, root_region}
 use Rattle.convoy_narrowing.specs.Narrowing.{closes_region}
-use Rattle.convoy_origin.specs.Widened.{HasTarget, widened, widened_schedule}
+use Rattle.convoy_scenario.specs.Widened.{target_wait, widened}
+use Rattle.convoy_origin.specs.Widened.{HasTarget, widened_schedule}
 use Rattle.convoy_origin.specs.WidenedBoxes.{target_range, widened_box}
-use Rattle.convoy_origin.specs.Windowed.{IsWindowed}
 
 -- the region of the widened scenario that has the members of a region, with their issues moved: its box is widened, and what comes before what is the same
 abbrev pub widened_region : Scenario → Region → Region
@@ -45,7 +45,11 @@ RootWidens = (scenario : Scenario) → widened_region scenario (root_region scen
 -- Where the target does not wait, each region is its own widened region.
 abbrev pub WidenedRegionIsItself : Type 0
 WidenedRegionIsItself =
-    (scenario : Scenario) (region : Region) → IsScenario scenario → IsRegion scenario region → widened_region scenario region ≡ region
+    (scenario : Scenario) (region : Region)
+    → target_wait scenario ≡ 0
+    → IsScenario scenario
+    → IsRegion scenario region
+    → widened_region scenario region ≡ region
 
 -- Whatever closes the widened region for a latency closes the region for it.
 abbrev pub ClosedByWidened : Type 0
@@ -60,7 +64,7 @@ ClosedByWidened =
 abbrev pub PlainBoundOfWidened : Type 0
 PlainBoundOfWidened =
     (scenario : Scenario) (region : Region)
-    → IsWindowed scenario
+    → IsScenario scenario
     → IsRegion scenario region
     → IsClosedFor scenario region (plain_bound (widened scenario) (widened_box scenario region.ranges))
 
@@ -68,7 +72,7 @@ PlainBoundOfWidened =
 abbrev pub StampBoundOfWidened : Type 0
 StampBoundOfWidened =
     (scenario : Scenario) (region : Region)
-    → IsWindowed scenario
+    → IsScenario scenario
     → IsRegion scenario region
     → IsClosedFor scenario region (stamp_bound (widened scenario) (widened_box scenario region.ranges))
 
@@ -76,7 +80,7 @@ StampBoundOfWidened =
 abbrev pub LeadsOfWidened : Type 0
 LeadsOfWidened =
     (scenario : Scenario) (region : Region) (latency : ℕ)
-    → IsWindowed scenario
+    → IsScenario scenario
     → IsRegion scenario region
     → IsTrue (closes_region (widened scenario) (widened_region scenario region) latency)
     → IsClosedFor scenario region latency

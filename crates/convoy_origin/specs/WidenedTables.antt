@@ -5,7 +5,8 @@ use Rattle.convoy_scenario.specs.Scenario.{GoesTo, Scenario, message_at}
 use Rattle.convoy_sim.specs.Times.{greatest}
 use Rattle.convoy_intervals.specs.Boxes.{Box, IsBox}
 use Rattle.convoy_intervals.specs.Bounds.{Tables, plain_bound, rivals, tables_of}
-use Rattle.convoy_origin.specs.Widened.{HasTarget, target_wait, widened}
+use Rattle.convoy_scenario.specs.Widened.{target_wait, widened}
+use Rattle.convoy_origin.specs.Widened.{HasTarget}
 use Rattle.convoy_origin.specs.WidenedBoxes.{target_range, widened_box}
 
 -- the tables of a widened box

@@ -9,10 +9,10 @@ ghost use Rattle.convoy_origin.specs.WidenedRegions.{RootWidens, WidenedIsExact}
 ghost use Rattle.convoy_origin.specs.WidenedRegions.{WidenedRegionIsItself};
 ghost use Rattle.convoy_origin.specs.WidenedTables.{PlainBoundIsTold, TablesWiden};
 
-use crate::origin_laws::windowed_widen;
 use convoy_intervals::box_laws::plain_bound_holds;
 use convoy_narrowing::narrowing_laws::closed_region_holds;
 use convoy_packets::schedule_laws::packets_stand_once;
+use convoy_scenario::widened_laws::widened_is_scenario;
 use convoy_stamps::stamp_bound_laws::stamp_bound_holds;
 
 /// The widened region is a region of the widened scenario.
@@ -52,7 +52,7 @@ pub fn plain_bound_of_widened()
     ensures { PlainBoundOfWidened }
 {
     closed_by_widened();
-    windowed_widen();
+    widened_is_scenario();
     plain_bound_holds();
 }
 
@@ -61,7 +61,7 @@ pub fn stamp_bound_of_widened()
     ensures { StampBoundOfWidened }
 {
     closed_by_widened();
-    windowed_widen();
+    widened_is_scenario();
     stamp_bound_holds();
 }
 
@@ -71,7 +71,7 @@ pub fn leads_of_widened()
 {
     closed_by_widened();
     regions_widen();
-    windowed_widen();
+    widened_is_scenario();
     closed_region_holds();
 }
 

@@ -1,5 +1,5 @@
 -- What is told of a picture in words: the answer and its reason, each packet on its way, and what happens at each group.
-use Rattle.std.specs.Prelude.{ℕ, List, ◌∷◌, ◌++◌, Option, None, Some, codes, decimal}
+use Rattle.std.specs.Prelude.{ℕ, ◌-◌, List, ◌∷◌, ◌++◌, Option, None, Some, codes, decimal}
 use Rattle.convoy_scenario.specs.Scenario.{Scenario, group_name_at, message_at}
 use Rattle.convoy_packets.specs.Assignment.{receiver_of}
 use Rattle.convoy_packets.specs.declared.packet.Packet.{Packet}
@@ -28,13 +28,13 @@ outcome_text scenario why (Some holder) =
     ++ (codes ", it waits for " ++ (message_name_at scenario holder.message
     ++ (codes ", and is delivered at tick " ++ decimal why.delivered))))
 
--- why the target is so late: who issues it and when, and what becomes of it
+-- why the target is so late: who issues it and when, so many ticks before its delivery, and what becomes of it
 unfoldable pub reason_text : Scenario → Explanation → List ℕ
 reason_text scenario why =
     let target = message_at scenario scenario.target_message in
     sender_text scenario target.sender
     ++ (codes " issues " ++ (target.name
-    ++ (codes " at tick " ++ (decimal target.at ++ outcome_text scenario why why.holder))))
+    ++ (codes " at tick " ++ (decimal (why.delivered - why.latency) ++ outcome_text scenario why why.holder))))
 
 -- what a packet brings
 abbrev pub load_text : Scenario → Packet → List ℕ

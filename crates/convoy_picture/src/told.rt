@@ -4,7 +4,7 @@ ghost use Rattle.convoy_packets.specs.Assignment.{receiver_of};
 
 use super::flight::Flight;
 use convoy_packets::Packet;
-use convoy_scenario::lookup::{first_tick, sender_of};
+use convoy_scenario::lookup::sender_of;
 use convoy_scenario::naming::{group_name, message_name};
 use convoy_scenario::{AllocResult, Scenario};
 use convoy_timeline::{Entry, EntryKind, Explanation, sender_name, stamp_text, ticks_text};
@@ -37,7 +37,7 @@ pub fn reason_words(alloc: Global, scenario: &Scenario, why: &Explanation) -> Al
     let target = scenario.target_message();
     let sender = sender_name(scenario, sender_of(scenario, target));
     let name = message_name(scenario, target);
-    let at = first_tick(scenario, target);
+    let at = why.delivered.saturating_sub(why.latency);
     let outcome = outcome_words(alloc, scenario, why)?;
     format!(in alloc; "{sender} issues {name} at tick {at}{outcome}")
 }

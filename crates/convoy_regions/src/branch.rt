@@ -1,7 +1,7 @@
-ghost use Rattle.std.specs.Prelude.{◌≡◌, IfNone, IfOk, IfSome, IsTrue, ◌↔◌, MatchResult, false, true};
+ghost use Rattle.std.specs.Prelude.{◌≡◌, All, IfNone, IfOk, IfSome, IsTrue, ◌↔◌, MatchResult, false, true};
 ghost use Rattle.convoy_packets.specs.Assignment.{IsAssignment};
 ghost use Rattle.convoy_sim.specs.Delivery.{latency_of};
-ghost use Rattle.convoy_intervals.specs.Boxes.{CanSplit, IsPoint};
+ghost use Rattle.convoy_intervals.specs.Boxes.{CanSplit, IsBox, IsPoint};
 ghost use Rattle.convoy_intervals.specs.Tracked.{tracked_of};
 ghost use Rattle.convoy_regions.specs.Branches.{branch_of};
 ghost use Rattle.convoy_regions.specs.Stages.{IsPrecedence};
@@ -49,6 +49,26 @@ impl Branch {
         Ok(Branch {
             tracked: Tracked::root(alloc, instance)?,
             before: Vec::new(alloc),
+            by_delay: false,
+        })
+    }
+
+    /// The region of the scenario of a box and some precedences. Fails where memory runs out, and else never; the box
+    /// does not come back then.
+    pub fn over(
+        alloc: Global,
+        instance: &Instance,
+        delay_box: DelayBox,
+        before: &[Precedence],
+    ) -> Result<Branch, AllocError>
+        requires inside { IsBox instance.now delay_box }
+        requires within { All (IsPrecedence instance.now) before.now }
+        ensures { IfOk result (λ branch. branch
+            ≡ branch_of instance.now (record { ranges = delay_box; before = before.now })) }
+    {
+        Ok(Branch {
+            tracked: Tracked::over(alloc, instance, delay_box)?,
+            before: Vec::from_slice(alloc, before)?,
             by_delay: false,
         })
     }

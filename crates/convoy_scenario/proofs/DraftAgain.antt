@@ -1,5 +1,5 @@
 -- The draft of a scenario, with names in place of its numbers: it passes the checks, and gives the scenario.
-use Rattle.std.proofs.Common.{◌≡◌, ℕ, pos, int_le, ◌+◌, ◌-◌, ◌<◌, ◌≤◌, ◌==◌, ◌&&◌, not, Bool, true, false, leb, le-leb, List, [], ◌∷◌, length, get_or, map, All, Option, Some, None, Ok, eq-eqb, refl, ap, sym, subst, ◌∙◌, arith, inl, inr}
+use Rattle.std.proofs.Common.{◌≡◌, ℕ, pos, ◌+◌, ◌-◌, ◌<◌, ◌≤◌, ◌==◌, ◌&&◌, not, Bool, true, false, leb, le-leb, List, [], ◌∷◌, length, get_or, map, All, Option, Some, None, Ok, eq-eqb, refl, ap, sym, subst, ◌∙◌, arith, inl, inr}
 use Rattle.std.specs.List.{list_all, list_any, AllByRecursion, IsDistinct}
 use Rattle.std.specs.Str.{bytes_eq}
 use Rattle.std.proofs.lemmas.Bool.{and_parts, and_from, or_cases, cases_order, eqb-true, both_ways, false≢true, not-true, false_from_ne_true}
@@ -16,12 +16,13 @@ use Rattle.convoy_scenario.specs.Scenario.{Scenario, Link, Message, message_at, 
 use Rattle.convoy_scenario.specs.WellFormed.{sender_place, is_before, is_whole, follows, ascend_after, IsSender, IsLink, IsMulticast, IsScenario}
 use Rattle.convoy_draft.specs.Names.{is_name, is_group_name}
 use Rattle.convoy_draft.specs.Limits.{greatest_delay}
-use Rattle.convoy_draft.specs.Checks.{Check, checks, judge, is_within, ticks, is_count, is_among, all_differ, is_known_sender, knows, is_message, messages_differ, is_named_alike, is_same_pair, links_differ, has_range, has_wait, knows_link, leads_elsewhere, is_target_addressed, is_target_fixed}
+use Rattle.convoy_draft.specs.Checks.{Check, checks, judge, is_within, ticks, is_count, is_among, all_differ, is_known_sender, knows, is_message, messages_differ, is_named_alike, is_same_pair, links_differ, has_range, has_wait, knows_link, leads_elsewhere, is_target_addressed}
 use Rattle.convoy_scenario.specs.Naming.{sender_name, draft_link, draft_message, draft_for}
-use Rattle.convoy_scenario.specs.Numbering.{message_place, sender_of, link_of, message_of, scenario_of, scenario_of_draft}
+use Rattle.convoy_scenario.specs.Numbering.{message_place, sender_of, link_of, message_of, scenario_of, scenario_of_draft, with_room}
 use Rattle.convoy_scenario.proofs.NumberedAgain.{itself, same_bytes, any_at, apart, one_place, among_at, place_again, numbers_again, Rises, rises, above, among_named}
 use Rattle.convoy_scenario.proofs.LinkLemmas.{ticks_again, not_itself, before_all, stay}
 use Rattle.convoy_scenario.proofs.NumberedLemmas.{AllByRecursion-map, nothing}
+use Rattle.convoy_scenario.proofs.RoomLemmas.{room_from, with_room_is}
 use Rattle.convoy_scenario.proofs.PlaceLemmas.{place_within, place_passes, find_place}
 
 -- ---- back to numbers
@@ -217,20 +218,12 @@ delay_again plan s = delay_within plan.time plan.delay s.delay_low s.delay_high 
 waits_again : (at wait : ℕ) → at ≤ GREATEST_AT → wait ≤ LONGEST_WAIT → is_within (ticks GREATEST_AT (pos at)) (ticks GREATEST_AT (pos at) + LONGEST_WAIT) (pos (at + wait)) ≡ true
 waits_again at wait low high = rw (ticks_again GREATEST_AT at low) (within_again at (at + LONGEST_WAIT) (at + wait) (omega arith) (omega (arith, high)))
 
-fixed_again : (plan : Scenario) → IsScenario plan → is_target_fixed (draft_for plan) ≡ true
-fixed_again plan s =
-    let by_name : DraftMessage → Bool = λ m. bytes_eq (draft_for plan).target_message m.name in
-    let found = find_place by_name (draft_for plan).messages nothing (is_there plan s) in
-    let is : get_or (draft_for plan).messages (message_place (draft_for plan).target_message (draft_for plan).messages) nothing ≡ draft_message plan (message_at plan plan.target_message) =
-    ap (λ (k : ℕ). get_or (draft_for plan).messages k nothing) (target_again plan s) ∙ get_or-map (draft_message plan) plan.multicasts plan.target_message no_message nothing s.target in
-    rw found (ap (λ (m : DraftMessage). int_le m.until m.at) is ∙ le-leb _ _ (omega (arith, s.fixed)))
-
 pub passes_again : (plan : Scenario) → IsScenario plan → judge (checks (draft_for plan)) ≡ Ok tt
 passes_again plan s =
     let each = all_drafts plan in
     let links = all_links plan in
     judged (checks (draft_for plan))
-    (delay_again plan s, (count_again MOST_GROUPS plan.groups s.groups_low s.groups_high, (rw (length-map plan.multicasts (draft_message plan)) (count_again MOST_MULTICASTS plan.multicasts s.multicasts_low s.multicasts_high), (each (λ m. is_within 0 GREATEST_AT m.at) plan.multicasts s.messages (λ m is. within_again 0 GREATEST_AT m.at (omega arith) is.at), (each has_wait plan.multicasts s.messages (λ m is. waits_again m.at m.longest_wait is.at is.wait), (links (has_range (pos plan.delay)) plan.links s.links (λ l is. none_within l.least l.most plan.delay is.low is.ordered is.high), (s.tick, (all_true is_group_name plan.groups s.group_names, (each (λ m. is_name m.name) plan.multicasts s.messages (λ m is. is.name), (differ plan.groups s.group_names_differ, (messages_are plan plan.multicasts s.message_names_differ, (links_are plan plan.links s.group_names_differ s.links None s.ascending, (each (knows plan.groups) plan.multicasts s.messages (λ m is. and_from _ _ (sender_known plan m.sender is.sender) (names_known plan.groups m.destinations is.known)), (among_at plan.groups plan.target_group (group_known plan s), (links (knows_link plan.groups) plan.links s.links (λ l is. and_from _ _ (sender_known plan l.sender is.sender) (among_at plan.groups l.to is.to)), (each (λ m. leb 1 (length m.to)) plan.multicasts s.messages (λ m is. rw (length-map m.destinations (group_name_at plan)) (le-leb 1 (length m.destinations) is.destinations)), (each (λ m. all_differ m.to) plan.multicasts s.messages (λ m is. names_differ plan.groups m.destinations 0 s.group_names_differ is.known (rises 0 m.destinations is.ascending (λ some. omega arith))), (is_there plan s, (addressed_again plan s, (links leads_elsewhere plan.links s.links (λ l is. elsewhere plan l s.group_names_differ is), (fixed_again plan s, tt)))))))))))))))))))))
+    (delay_again plan s, (count_again MOST_GROUPS plan.groups s.groups_low s.groups_high, (rw (length-map plan.multicasts (draft_message plan)) (count_again MOST_MULTICASTS plan.multicasts s.multicasts_low s.multicasts_high), (each (λ m. is_within 0 GREATEST_AT m.at) plan.multicasts s.messages (λ m is. within_again 0 GREATEST_AT m.at (omega arith) is.at), (each has_wait plan.multicasts s.messages (λ m is. waits_again m.at m.longest_wait is.at is.wait), (links (has_range (pos plan.delay)) plan.links s.links (λ l is. none_within l.least l.most plan.delay is.low is.ordered is.high), (s.tick, (all_true is_group_name plan.groups s.group_names, (each (λ m. is_name m.name) plan.multicasts s.messages (λ m is. is.name), (differ plan.groups s.group_names_differ, (messages_are plan plan.multicasts s.message_names_differ, (links_are plan plan.links s.group_names_differ s.links None s.ascending, (each (knows plan.groups) plan.multicasts s.messages (λ m is. and_from _ _ (sender_known plan m.sender is.sender) (names_known plan.groups m.destinations is.known)), (among_at plan.groups plan.target_group (group_known plan s), (links (knows_link plan.groups) plan.links s.links (λ l is. and_from _ _ (sender_known plan l.sender is.sender) (among_at plan.groups l.to is.to)), (each (λ m. leb 1 (length m.to)) plan.multicasts s.messages (λ m is. rw (length-map m.destinations (group_name_at plan)) (le-leb 1 (length m.destinations) is.destinations)), (each (λ m. all_differ m.to) plan.multicasts s.messages (λ m is. names_differ plan.groups m.destinations 0 s.group_names_differ is.known (rises 0 m.destinations is.ascending (λ some. omega arith))), (is_there plan s, (addressed_again plan s, (links leads_elsewhere plan.links s.links (λ l is. elsewhere plan l s.group_names_differ is), tt))))))))))))))))))))
 
 pub made_again : (plan : Scenario) → IsScenario plan → scenario_of_draft (draft_for plan) ≡ Ok plan
-made_again plan s = rw (passes_again plan s) (ap (λ (p : Scenario). Ok p) (draft_again plan s))
+made_again plan s = rw (passes_again plan s) (ap with_room (draft_again plan s) ∙ with_room_is plan (room_from plan s.room))

@@ -10,4 +10,6 @@ pub mod PlaceLemmas
 pub mod NumberedAgain
 pub mod OtherTargets
 pub mod DraftAgain
+pub mod RoomLemmas
 pub mod RowScenarios
+pub mod WidenedLemmas

@@ -1,5 +1,5 @@
 -- A draft that passes all the checks gives a scenario that is well formed.
-use Rattle.std.proofs.Common.{◌≡◌, ℕ, ◌+◌, ◌-◌, ℤ, int_le, leb, le-leb, ◌&&◌, ◌∙◌, ap, arith, subst, leb-true, ◌||◌, pos, negsuc, ◌<◌, ◌≤◌, Bool, true, false, not, cond, nat_le, List, [], ◌∷◌, length, get_or, map, Option, Some, None, Result, Ok, Err, refl, sym}
+use Rattle.std.proofs.Common.{◌≡◌, ℕ, ◌+◌, ◌-◌, ℤ, int_le, leb, le-leb, ◌&&◌, ◌∙◌, ap, arith, leb-true, ◌||◌, pos, negsuc, ◌<◌, ◌≤◌, Bool, true, false, not, cond, nat_le, List, [], ◌∷◌, length, get_or, map, Option, Some, None, Result, Ok, Err, refl, sym}
 use Rattle.std.specs.List.{list_all, list_any, find, AllByRecursion, IsDistinct}
 use Rattle.std.specs.Str.{bytes_eq}
 use Rattle.std.proofs.lemmas.Bool.{and_parts, and_from, eqb-true, false≢true, false_from_ne_true}
@@ -10,6 +10,7 @@ use Rattle.std.proofs.lemmas.List.Sums.{AllPass-from_list_all}
 use Rattle.std.proofs.lemmas.Slice.Eq.{bytes_eq-Decides}
 use Rattle.convoy_draft.specs.declared.fault.ScenarioFault.{ScenarioFault}
 use Rattle.convoy_draft.specs.declared.limits.TheConstants.{GREATEST_AT, GREATEST_DELAY, GREATEST_UNTIL, GREATEST_WHOLE_DELAY, LONGEST_WAIT, MOST_GROUPS, MOST_MULTICASTS}
+use Rattle.convoy_scenario.specs.Room.{HasRoom}
 use Rattle.convoy_scenario.specs.Scenario.{Link, Message, message_at, no_message, is_same_sender}
 use Rattle.convoy_scenario.specs.WellFormed.{is_whole, IsSender, IsLink, IsMulticast, IsScenario}
 use Rattle.convoy_draft.specs.Names.{is_name, is_group_name}
@@ -18,7 +19,7 @@ use Rattle.convoy_scenario.specs.declared.sender.Sender.TheVariants.{Group}
 use Rattle.convoy_draft.specs.declared.time.Time.{Time}
 use Rattle.convoy_draft.specs.declared.time.Time.TheVariants.{Ticks, Real}
 use Rattle.convoy_draft.specs.Draft.{Draft, DraftLink, DraftMessage}
-use Rattle.convoy_draft.specs.Checks.{is_within, ticks, has_wait, is_count, is_among, all_differ, is_message, messages_differ, links_differ, is_known_sender, knows, is_named_alike, has_range, knows_link, leads_elsewhere, is_target_addressed, is_target_fixed, checks, judge, Check}
+use Rattle.convoy_draft.specs.Checks.{is_within, ticks, has_wait, is_count, is_among, all_differ, is_message, messages_differ, links_differ, is_known_sender, knows, is_named_alike, has_range, knows_link, leads_elsewhere, is_target_addressed, checks, judge, Check}
 use Rattle.convoy_scenario.specs.Numbering.{place, message_place, sender_of, numbers_of, link_of, message_of, in_order, delay_of_draft, links_of_draft, scenario_of}
 use Rattle.convoy_scenario.proofs.LinkLemmas.{ticks_again, in_order_all, in_order_ascends}
 use Rattle.convoy_scenario.proofs.NumberLemmas.{numbers_have, numbers_some, numbers_rise, numbers_below}
@@ -45,7 +46,6 @@ pub record Passes (draft : Draft) : Type 0 where
   pub target : is_message draft.target_message draft.messages ≡ true
   pub addressed : is_target_addressed draft ≡ true
   pub elsewhere : list_all leads_elsewhere draft.links ≡ true
-  pub fixed : is_target_fixed draft ≡ true
 
 next_holds : (b : Bool) (fault : ScenarioFault) (rest : Result (Unit {0}) ScenarioFault) → cond b rest (Err fault) ≡ Ok tt → (b ≡ true) × (rest ≡ Ok tt)
 next_holds true fault rest h = (refl, h)
@@ -82,7 +82,6 @@ passes draft h =
       target = c.1.1.1.1.1.0;
       addressed = c.1.1.1.1.1.1.0;
       elsewhere = c.1.1.1.1.1.1.1.0;
-      fixed = c.1.1.1.1.1.1.1.1.0;
     }
 
 ticks-within : (least most : ℕ) (z : ℤ) → is_within least most z ≡ true → (least ≤ ticks most z) × (ticks most z ≤ most)
@@ -101,16 +100,6 @@ wait-within at (pos n) h low =
     let high = leb-true _ _ parts.1 in
     rw (ticks_again GREATEST_UNTIL n (omega (arith, high, low))) (omega (arith, high))
 wait-within at (negsuc n) h low = absurd (false≢true h)
-
--- where the last tick is no later than the first there is nothing to wait for
-no-wait : (at until : ℤ) → int_le until at ≡ true → is_within 0 GREATEST_AT at ≡ true → ticks GREATEST_UNTIL until - ticks GREATEST_AT at ≡ 0
-no-wait (pos m) (pos n) h within =
-    let low = leb-true _ _ h in
-    let high = (ticks-within 0 GREATEST_AT (pos m) within).1 in
-    let m_high = leb-true _ _ (and_parts (nat_le 0 m) (nat_le m GREATEST_AT) within).1 in
-    rw (ticks_again GREATEST_UNTIL n (omega (arith, low, m_high)), ticks_again GREATEST_AT m m_high) (omega (arith, low))
-no-wait (pos m) (negsuc n) h within = omega arith
-no-wait (negsuc m) until h within = absurd (false≢true within)
 
 -- no name is told twice
 pub apart : {A : Type 0} (p : A → Bool) (xs : List A) → not (list_any p xs) ≡ true → AllByRecursion (λ x. p x ≡ false) xs
@@ -220,9 +209,6 @@ links_formed draft (link ∷ links) within ranges known other =
 target_is : (draft : Draft) (m : DraftMessage) → find (λ message. bytes_eq draft.target_message message.name) draft.messages ≡ Some m → is_target_addressed draft ≡ true → is_among draft.target_group m.to ≡ true
 target_is draft m e h = rw e at h
 
-target_stays : (draft : Draft) (m : DraftMessage) → find (λ message. bytes_eq draft.target_message message.name) draft.messages ≡ Some m → is_target_fixed draft ≡ true → int_le m.until m.at ≡ true
-target_stays draft m e h = rw e at h
-
 -- a message of which nothing is written
 abbrev pub nothing : DraftMessage
 nothing = record { name = []; sender = None; to = []; at = pos 0; until = pos 0 }
@@ -243,9 +229,9 @@ whole_within Ticks (pos d) h is =
     rw (ticks_again GREATEST_DELAY d (omega (arith, high))) high
 whole_within Ticks (negsuc d) h is = absurd (false≢true h)
 
--- a draft that passes the checks is a scenario
-pub scenario_formed : (draft : Draft) → judge (checks draft) ≡ Ok tt → IsScenario (scenario_of draft)
-scenario_formed draft h =
+-- a draft that passes the checks, and in which the target has room, is a scenario
+pub scenario_formed : (draft : Draft) → judge (checks draft) ≡ Ok tt → HasRoom (scenario_of draft) → IsScenario (scenario_of draft)
+scenario_formed draft h room =
     let p = passes draft h in
     let within = within_both draft.time draft.delay p.delay in
     let delay = ticks-within 1 GREATEST_DELAY draft.delay within in
@@ -264,7 +250,6 @@ scenario_formed draft h =
     let target : DraftMessage = get_or draft.messages t nothing in
     let found = find_place by_name draft.messages nothing p.target in
     let goes : is_among draft.target_group target.to ≡ true = target_is draft target found p.addressed in
-    let stays : int_le target.until target.at ≡ true = target_stays draft target found p.fixed in
     let g = place draft.target_group draft.groups in
     let g_within : g < length draft.groups = place_within (bytes_eq draft.target_group) draft.groups p.target_group in
     let at_g : get_or draft.groups g [] ≡ draft.target_group = name_at_place draft.target_group draft.groups p.target_group in
@@ -286,17 +271,16 @@ scenario_formed draft h =
       messages = All-map (IsMulticast (length draft.groups)) (message_of draft.groups) draft.messages (λ k d within. multicast_formed draft.groups (get_or draft.messages k d) (names k d within) (known k d within) (some k d within) (at k d within) (waits k d within));
       target = rw numbered t_within;
       addressed = rw stands (numbers_have draft.groups target.to g g_within (rw at_g goes));
-      fixed = rw stands (no-wait target.at target.until stays (at t nothing t_within));
+      room = room;
     }
 
--- the same of a scenario that is made part by part, each from a part of the draft or from an equal of it
-pub parts_formed : (draft : Draft) (time : Time) (tick : Option ℕ) (delay : ℤ) (groups : List (List ℕ)) (links : List DraftLink) (messages : List DraftMessage) (message group : List ℕ)
+-- a scenario that is made part by part, each from a part of the draft or from an equal of it
+pub parts_numbered : (draft : Draft) (time : Time) (tick : Option ℕ) (delay : ℤ) (groups : List (List ℕ)) (links : List DraftLink) (messages : List DraftMessage) (message group : List ℕ)
     → record { time = time; tick = tick; delay = delay; groups = groups; links = links; messages = messages; target_message = message; target_group = group } ≡ draft
-    → judge (checks draft) ≡ Ok tt
     → {lent lent' linking : List (List ℕ)} {lines : List DraftLink} {linked : List Link} {sent : List DraftMessage} {d t g : ℕ} {multicasts : List Message}
     → d ≡ ticks GREATEST_DELAY delay → linking ≡ groups → lines ≡ links → linked ≡ in_order d (map (link_of linking) lines)
     → lent ≡ groups → multicasts ≡ map (message_of lent) messages
     → sent ≡ messages → t ≡ message_place message sent → lent' ≡ groups → g ≡ place group lent'
-    → IsScenario (record { time = time; tick = tick; delay = d; groups = groups; links = linked; multicasts = multicasts; target_message = t; target_group = g })
-parts_formed draft time tick delay groups links messages message group seen h b k l n c d e f i j =
-    rw (n, k, l, b, d, c, f, e, j, i) (scenario_formed (record { time = time; tick = tick; delay = delay; groups = groups; links = links; messages = messages; target_message = message; target_group = group }) (subst (λ (d : Draft). judge (checks d) ≡ Ok tt) (sym seen) h))
+    → record { time = time; tick = tick; delay = d; groups = groups; links = linked; multicasts = multicasts; target_message = t; target_group = g } ≡ scenario_of draft
+parts_numbered draft time tick delay groups links messages message group seen b k l n c d e f i j =
+    rw (n, k, l, b, d, c, f, e, j, i) (ap scenario_of seen)

@@ -1,12 +1,13 @@
 -- A scenario with another target is well formed.
-use Rattle.std.proofs.Common.{◌≡◌, ◌<◌, ℕ, length}
-use Rattle.convoy_scenario.specs.Scenario.{GoesTo, Scenario, message_at}
+use Rattle.std.proofs.Common.{◌<◌, ℕ, length}
+use Rattle.convoy_scenario.specs.Room.{HasRoom}
+use Rattle.convoy_scenario.specs.Scenario.{GoesTo, Scenario}
 use Rattle.convoy_scenario.specs.Targets.{with_target}
 use Rattle.convoy_scenario.specs.WellFormed.{IsScenario}
 
-pub with_target_formed : (scenario : Scenario) (m g : ℕ) → IsScenario scenario → m < length scenario.multicasts → GoesTo scenario m g → (message_at scenario m).longest_wait ≡ 0 →
+pub with_target_formed : (scenario : Scenario) (m g : ℕ) → IsScenario scenario → m < length scenario.multicasts → GoesTo scenario m g → HasRoom (with_target scenario m g) →
     IsScenario (with_target scenario m g)
-with_target_formed scenario m g is known addressed fixed = record {
+with_target_formed scenario m g is known addressed room = record {
   delay_low = is.delay_low;
   delay_high = is.delay_high;
   delay_whole = is.delay_whole;
@@ -23,5 +24,5 @@ with_target_formed scenario m g is known addressed fixed = record {
   messages = is.messages;
   target = known;
   addressed = addressed;
-  fixed = fixed;
+  room = room;
 }

@@ -1,6 +1,6 @@
 -- Worked rows: what the definitions give for some drafts.
 use Rattle.std.proofs.Common.{◌≡◌, refl, ℕ, pos, negsuc, List, [], ◌∷◌, Option, Some, None, Ok, Err, codes}
-use Rattle.convoy_draft.specs.declared.fault.ScenarioFault.TheVariants.{OverLimit, BadName, DoubleName, UnknownGroup, NoDestination, DoubleDestination, UnknownTarget, TargetNotAddressed, LinkToItself, TargetWaits}
+use Rattle.convoy_draft.specs.declared.fault.ScenarioFault.TheVariants.{OverLimit, BadName, DoubleName, UnknownGroup, NoDestination, DoubleDestination, UnknownTarget, TargetNotAddressed, LinkToItself}
 use Rattle.convoy_draft.specs.declared.fault.Limit.TheVariants as limit
 use Rattle.convoy_scenario.specs.declared.sender.Sender.TheVariants.{Client, Group}
 use Rattle.convoy_draft.specs.declared.time.Time.TheVariants.{Ticks, Real}
@@ -26,16 +26,16 @@ base = record {
   target_group = codes "a";
 }
 
--- the scenario of it, in which y may wait so long
-abbrev base_scenario_where_y_waits : ℕ → Scenario
-base_scenario_where_y_waits longest_wait =
+-- the scenario of it, in which y and t may wait so long
+abbrev base_scenario_where_both_wait : ℕ → ℕ → Scenario
+base_scenario_where_both_wait y t =
     of_two Ticks 3 (record { name = codes "x"; sender = Client; destinations = 1 ∷ []; at = 0; longest_wait = 0 }
-    ∷ record { name = codes "t"; sender = Client; destinations = 0 ∷ 1 ∷ []; at = 0; longest_wait = 0 }
-    ∷ record { name = codes "y"; sender = Group 0; destinations = 0 ∷ 1 ∷ []; at = 6; longest_wait = longest_wait }
+    ∷ record { name = codes "t"; sender = Client; destinations = 0 ∷ 1 ∷ []; at = 0; longest_wait = t }
+    ∷ record { name = codes "y"; sender = Group 0; destinations = 0 ∷ 1 ∷ []; at = 6; longest_wait = y }
     ∷ []) 1 0
 
 abbrev base_scenario : Scenario
-base_scenario = base_scenario_where_y_waits 0
+base_scenario = base_scenario_where_both_wait 0 0
 
 base_numbered : scenario_of_draft base ≡ Ok base_scenario
 base_numbered = refl
@@ -104,7 +104,7 @@ waiting y t = record base {
       ∷ [];
 }
 
-wait_numbered : scenario_of_draft (waiting 9 0) ≡ Ok (base_scenario_where_y_waits 3)
+wait_numbered : scenario_of_draft (waiting 9 0) ≡ Ok (base_scenario_where_both_wait 3 0)
 wait_numbered = refl
 
 until_before_at : scenario_of_draft (waiting 5 0) ≡ Err (OverLimit limit.Until)
@@ -113,8 +113,19 @@ until_before_at = refl
 until_too_far : scenario_of_draft (waiting 65542 0) ≡ Err (OverLimit limit.Until)
 until_too_far = refl
 
-target_waits : scenario_of_draft (waiting 9 1) ≡ Err TargetWaits
+-- the target may wait, as long as its window and that of each other message are not too long together
+target_waits : scenario_of_draft (waiting 9 65532) ≡ Ok (base_scenario_where_both_wait 3 65532)
 target_waits = refl
+
+target_has_no_room : scenario_of_draft (waiting 9 65533) ≡ Err (OverLimit limit.Until)
+target_has_no_room = refl
+
+-- the target's window ends at the last tick at which a message may be issued, or past it
+abbrev late : ℕ → Draft
+late t = record base { messages = record { name = codes "t"; sender = None; to = codes "b" ∷ codes "a" ∷ []; at = pos 1000000; until = pos t } ∷ [] }
+
+target_ends_past_the_last_tick : scenario_of_draft (late 1000001) ≡ Err (OverLimit limit.Until)
+target_ends_past_the_last_tick = refl
 
 -- ---- links
 

@@ -9,6 +9,9 @@ pub mod ScenarioLaws
 pub mod Memory
 pub mod Naming
 pub mod Numbering
+pub mod Room
 pub mod Scenario
 pub mod Targets
 pub mod WellFormed
+pub mod Widened
+pub mod WidenedLaws

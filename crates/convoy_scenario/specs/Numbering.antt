@@ -1,13 +1,16 @@
 -- The scenario of a draft, with numbers in place of names. Each word here has a value for any draft; only where all the checks hold do they mean what they say.
-use Rattle.std.specs.Prelude.{ℕ, ◌-◌, if◌then◌else◌, List, [], ◌∷◌, map, length, filter, Option, Some, None, unwrap_or, position, Result, Ok}
+use Rattle.std.specs.Prelude.{ℕ, ◌-◌, if◌then◌else◌, List, [], ◌∷◌, map, length, filter, Option, Some, None, unwrap_or, position, Result, Ok, Err}
 use Rattle.std.specs.List.{range_with_len}
 use Rattle.std.specs.Result.{result_and}
 use Rattle.std.specs.Str.{bytes_eq}
 use Rattle.std.proofs.Common.{get_or}
 use Rattle.convoy_draft.specs.declared.fault.ScenarioFault.{ScenarioFault}
+use Rattle.convoy_draft.specs.declared.fault.ScenarioFault.TheVariants.{OverLimit}
+use Rattle.convoy_draft.specs.declared.fault.Limit.TheVariants.{Until}
 use Rattle.convoy_draft.specs.declared.limits.TheConstants.{GREATEST_AT, GREATEST_DELAY, GREATEST_UNTIL}
 use Rattle.convoy_scenario.specs.declared.sender.Sender.{Sender}
 use Rattle.convoy_scenario.specs.declared.sender.Sender.TheVariants.{Client, Group}
+use Rattle.convoy_scenario.specs.Room.{has_room}
 use Rattle.convoy_scenario.specs.Scenario.{Link, Message, Scenario}
 use Rattle.convoy_draft.specs.Draft.{Draft, DraftLink, DraftMessage}
 use Rattle.convoy_draft.specs.Checks.{is_among, ticks, checks, judge}
@@ -83,6 +86,10 @@ scenario_of draft = record {
   target_group = place draft.target_group draft.groups;
 }
 
--- the scenario of a draft, or the fault of the first check that does not hold
+-- the scenario, or the fault that its target's window leaves no room
+abbrev pub with_room : Scenario → Result Scenario ScenarioFault
+with_room scenario = if has_room scenario then Ok scenario else Err (OverLimit Until)
+
+-- the scenario of a draft, or the fault of the first check that does not hold, of which room is the last
 abbrev pub scenario_of_draft : Draft → Result Scenario ScenarioFault
-scenario_of_draft draft = result_and (judge (checks draft)) (Ok (scenario_of draft))
+scenario_of_draft draft = result_and (judge (checks draft)) (with_room (scenario_of draft))

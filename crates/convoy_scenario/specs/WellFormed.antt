@@ -9,6 +9,7 @@ use Rattle.convoy_draft.specs.declared.limits.TheConstants.{GREATEST_AT, GREATES
 use Rattle.convoy_draft.specs.declared.time.Time.TheVariants.{Ticks}
 use Rattle.convoy_draft.specs.Limits.{is_tick}
 use Rattle.convoy_draft.specs.Names.{is_name, is_group_name}
+use Rattle.convoy_scenario.specs.Room.{HasRoom}
 use Rattle.convoy_scenario.specs.Scenario.{Link, Message, Scenario, message_at, is_addressed, is_same_sender}
 
 -- the sender is a client, or one of so many groups
@@ -61,7 +62,7 @@ abbrev pub ascend_after : Option Link → List Link → Bool
 ascend_after before [] = true
 ascend_after before (link ∷ links) = follows before link && ascend_after (Some link) links
 
--- the limits hold, names are names and differ, links stand in their order, all that is referred to is there, and the target does not wait
+-- the limits hold, names are names and differ, links stand in their order, all that is referred to is there, and the target has room to wait
 pub record IsScenario (scenario : Scenario) : Type 0 where
   pub delay_low : 1 ≤ scenario.delay
   pub delay_high : scenario.delay ≤ GREATEST_DELAY
@@ -79,4 +80,4 @@ pub record IsScenario (scenario : Scenario) : Type 0 where
   pub messages : All (IsMulticast (length scenario.groups)) scenario.multicasts
   pub target : scenario.target_message < length scenario.multicasts
   pub addressed : IsTrue (is_addressed (message_at scenario scenario.target_message) scenario.target_group)
-  pub fixed : (message_at scenario scenario.target_message).longest_wait ≡ 0
+  pub room : HasRoom scenario

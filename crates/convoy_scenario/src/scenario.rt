@@ -1,14 +1,17 @@
-ghost use Rattle.std.specs.Prelude.{◌≡◌, ◌<◌, length, IfOk};
+ghost use Rattle.std.specs.Prelude.{◌≡◌, ◌<◌, ℕ, length, IfOk, IsTrue};
 ghost use Rattle.std.specs.List.{list_any};
+ghost use Rattle.convoy_scenario.specs.Room.{HasRoom};
 ghost use Rattle.convoy_scenario.specs.Scenario.{GoesTo, message_at, may_wait, is_timed, group_name_at, range_between, Message, Scenario};
-ghost use Rattle.convoy_scenario.specs.Targets.{with_target};
+ghost use Rattle.convoy_scenario.specs.Targets.{may_be_target, with_target};
 ghost use Rattle.convoy_scenario.specs.WellFormed.{IsScenario};
+ghost use Rattle.convoy_scenario.specs.Widened.{target_wait, widened, widened_message};
 
 use super::link::{Link, link_between};
 use super::numbering::{links_of, message_place, multicasts_of, place};
 use super::parts::ScenarioParts;
+use super::room::has_room;
 use super::sender::Sender;
-use convoy_draft::{DraftScenario, Duration, Name, ScenarioFault, Time, check, delay_ticks};
+use convoy_draft::{DraftScenario, Duration, Limit, Name, ScenarioFault, Time, check, delay_ticks};
 use std::alloc::{AllocError, Global};
 use std::marker::Model;
 
@@ -120,6 +123,9 @@ impl Scenario {
             ..
         } = draft;
         let multicasts = multicasts_of(alloc, &groups, multicasts)?;
+        if !has_room(&multicasts, target_message) {
+            return Err(ScenarioFault::OverLimit(Limit::Until));
+        }
         Ok(Scenario {
             time,
             tick,
@@ -152,12 +158,12 @@ impl Scenario {
     }
 
     /// The same scenario with another target, in memory of its own: the latency of that message, which
-    /// does not wait, is asked at that group, which is one that it goes to. Fails where memory runs out,
-    /// and else never.
+    /// has room ([`may_be_target`](Self::may_be_target)), is asked at that group, which is one that it
+    /// goes to. Fails where memory runs out, and else never.
     pub fn with_target(&self, message: usize, group: usize) -> Result<Scenario, AllocError>
         requires known { message < length self.now.multicasts }
         requires addressed { GoesTo self.now message group }
-        requires fixed { (message_at self.now message).longest_wait ≡ 0 }
+        requires room { HasRoom (with_target self.now message group) }
         ensures { IfOk result (λ other. other ≡ with_target self.now message group) }
     {
         let same = self.copy()?;
@@ -166,6 +172,62 @@ impl Scenario {
             target_group: group,
             ..same
         })
+    }
+
+    /// Whether a message has room as the target: its window ends at a tick at which one may be issued, and
+    /// with the window of each other message it is no longer than one may be. A message that does not
+    /// wait has.
+    pub fn may_be_target(&self, message: usize) -> bool
+        ensures value { result ≡ may_be_target self.now message }
+        ensures room { (g : ℕ) → IsTrue result → HasRoom (with_target self.now message g) }
+        ensures lawful { IsScenario self.now }
+    {
+        has_room(&self.multicasts, message)
+    }
+
+    /// The widened scenario, in memory of its own: the target is issued at the end of its window, and each
+    /// other message may wait longer by as much as the target might (docs/PROTOCOL.md, "A target with a
+    /// window"). Fails where memory runs out, and else never.
+    pub fn widened(&self) -> Result<Scenario, AllocError>
+        ensures { IfOk result (λ other. other ≡ widened self.now) }
+    {
+        let same = self.copy()?;
+        let multicasts = self.widened_multicasts()?;
+        Ok(Scenario { multicasts, ..same })
+    }
+
+    /// The messages of the widened scenario. Fails where memory runs out, and else never.
+    fn widened_multicasts(&self) -> Result<Vec<Multicast>, AllocError>
+        ensures { IfOk result (λ copies. copies.items ≡ (widened self.now).multicasts) }
+    {
+        let alloc = *self.multicasts.allocator();
+        let mut multicasts = Vec::with_capacity(alloc, self.multicasts.len())?;
+        for message in 0..self.multicasts.len() {
+            multicasts.push(self.widened_multicast(message)?)?;
+        }
+        Ok(multicasts)
+    }
+
+    /// A message of the widened scenario. Fails where memory runs out, and else never.
+    fn widened_multicast(&self, message: usize) -> Result<Multicast, AllocError>
+        requires { message < length self.now.multicasts }
+        ensures { IfOk result (λ m. m ≡ message_at (widened self.now) message) }
+    {
+        let target = self.target_message;
+        let wait = u32::from(self.longest_wait(target));
+        let same = self.multicasts[message].copy()?;
+        if message == target {
+            Ok(Multicast {
+                at: same.at + wait,
+                longest_wait: 0,
+                ..same
+            })
+        } else {
+            Ok(Multicast {
+                longest_wait: same.longest_wait + wait,
+                ..same
+            })
+        }
     }
 
     /// Whether time goes in whole ticks, or is real (docs/PROTOCOL.md).

@@ -12,7 +12,7 @@ use Rattle.convoy_scenario_lines.specs.declared.version.Version.{Version}
 use Rattle.convoy_lines.specs.Labels.{number_in}
 use Rattle.convoy_lines.specs.Places.{Place, line_at, past_line}
 use Rattle.convoy_lines.specs.Results.{◌>>=◌}
-use Rattle.convoy_draft.specs.Checks.{Check, is_count, all_differ, is_message, messages_differ, knows, is_target_addressed, is_target_fixed, checks, judge}
+use Rattle.convoy_draft.specs.Checks.{Check, is_count, all_differ, is_message, messages_differ, knows, is_target_addressed, checks, judge}
 use Rattle.convoy_draft.specs.declared.time.Time.{Time}
 use Rattle.convoy_draft.specs.Draft.{Draft, DraftLink, DraftMessage}
 use Rattle.convoy_scenario.proofs.NumberedLemmas.{all_hold}
@@ -149,15 +149,7 @@ alike_few draft few =
                                             λ target. (
                                               ap (λ ms. is_target_addressed (with_messages draft ms)) same,
                                               refl,
-                                              λ addressed. (
-                                                refl,
-                                                refl,
-                                                λ elsewhere. (
-                                                  ap (λ ms. is_target_fixed (with_messages draft ms)) same,
-                                                  refl,
-                                                  λ fixed. tt,
-                                                ),
-                                              ),
+                                              λ addressed. (refl, refl, λ elsewhere. tt),
                                             ),
                                           ),
                                     ),

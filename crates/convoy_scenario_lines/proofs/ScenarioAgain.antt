@@ -23,7 +23,7 @@ use Rattle.convoy_scenario.specs.Scenario.{Scenario, Message, message_at, may_wa
 use Rattle.convoy_scenario.specs.WellFormed.{IsSender, IsLink, IsMulticast, IsScenario}
 use Rattle.convoy_draft.specs.Names.{is_letter, is_digit, is_name_byte, is_name, is_group_name, client_word}
 use Rattle.convoy_draft.specs.Limits.{is_tick}
-use Rattle.convoy_draft.specs.Checks.{checks, is_among, judge}
+use Rattle.convoy_draft.specs.Checks.{is_among}
 use Rattle.convoy_scenario_lines.specs.ScenarioLineLaws.{CanSayTime, CanSayLinks, CanSay}
 use Rattle.convoy_draft.specs.Durations.{count_of, unit_of, unit_word}
 use Rattle.convoy_draft.specs.declared.duration.TheConstants.{LONGEST_DURATION, MOST_UNITS}
@@ -209,7 +209,7 @@ target_line_again plan s within =
 
 -- the scenario of its draft
 numbered_again : (plan : Scenario) → IsScenario plan → scenario_of (draft_for plan) ≡ plan
-numbered_again plan s = (of_draft (judge (checks (draft_for plan))) (scenario_of (draft_for plan)) plan (ap told (made_again plan s))).1
+numbered_again plan s = (of_draft (draft_for plan) plan (ap told (made_again plan s))).1
 
 ordered_again : (plan : Scenario) (m : Message) → message_of plan.groups (draft_message plan m) ≡ m → is_ordered plan.groups (draft_message plan m) ≡ true
 ordered_again plan m again =

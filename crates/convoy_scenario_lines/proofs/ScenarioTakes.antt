@@ -1,7 +1,6 @@
 -- A scenario that is read from lines: the lines are those of the scenario.
 use Rattle.std.proofs.Common.{◌≡◌, ℕ, ℤ, pos, negsuc, int_le, ◌&&◌, ◌+◌, ◌-◌, ◌<◌, ◌==◌, if◌then◌else◌, Bool, true, false, cond, leb, ltb, List, [], ◌∷◌, ◌++◌, length, get_or, map, filter, Option, Some, None, ok_or, Result, Ok, Err, refl, ap, sym, subst, ◌∙◌, arith, inl, inr, codes, decimal, add-zero, add-one, append_assoc}
 use Rattle.std.specs.List.{list_all, list_any, AllByRecursion, AllZip, range_with_len}
-use Rattle.std.specs.Result.{result_and}
 use Rattle.std.specs.Str.{bytes_eq}
 use Rattle.std.proofs.lemmas.Bool.{and_parts, and_from, cases_Bool, false≢true, le-leb, leb-true}
 use Rattle.std.proofs.lemmas.List.{length-append, length-map}
@@ -22,6 +21,7 @@ use Rattle.convoy_draft.specs.declared.fault.ScenarioFault.TheVariants.{OverLimi
 use Rattle.convoy_draft.specs.declared.fault.Limit.TheVariants as limit
 use Rattle.convoy_draft.specs.Draft.{Draft, DraftLink, DraftMessage}
 use Rattle.convoy_scenario.specs.Naming.{sender_word}
+use Rattle.convoy_scenario.specs.Room.{has_room}
 use Rattle.convoy_scenario.specs.Scenario.{Scenario, message_at, may_wait}
 use Rattle.convoy_scenario.specs.WellFormed.{IsScenario}
 use Rattle.convoy_draft.specs.Names.{is_name, is_group_name, client_word}
@@ -419,9 +419,13 @@ all_ordered groups number (m ∷ ms) e =
 
 -- ---- the checks
 
-pub of_draft : (r : Result (Unit {0}) ScenarioFault) (made plan : Scenario) → told (result_and r (Ok made)) ≡ Ok plan → (r ≡ Ok tt) × (made ≡ plan)
-of_draft (Ok u) made plan e = (refl, same_ok made plan e)
-of_draft (Err fault) made plan e = absurd cc
+told_ok : (r : Result Scenario ScenarioFault) (plan : Scenario) → told r ≡ Ok plan → r ≡ Ok plan
+told_ok (Ok made) plan e = ap (λ (s : Scenario). Ok s) (same_ok made plan e)
+told_ok (Err fault) plan e = absurd cc
+
+pub of_draft : (draft : Draft) (plan : Scenario) → told (scenario_of_draft draft) ≡ Ok plan
+    → (judge (checks draft) ≡ Ok tt) × (scenario_of draft ≡ plan) × (has_room (scenario_of draft) ≡ true)
+of_draft draft plan e = given.passed (judge (checks draft)) (scenario_of draft) plan (told_ok (scenario_of_draft draft) plan e)
 
 of_order : (expected : Expected) (o : Option ℕ) (plan made : Scenario) → where_ordered expected o plan ≡ Ok made → (o ≡ None) × (plan ≡ made)
 of_order expected None plan made e = (refl, same_ok plan made e)
@@ -514,15 +518,20 @@ after_time version time = tick_at version time.1 >>= after_tick version time.0
 -- what the steps after the target ask, and what they give
 last_takes : (draft : Draft) (misplaced unordered : Option ℕ) (past : Place) (x : Scenario × Place)
     → (told (scenario_of_draft draft) >>= λ plan. where_ordered Link misplaced plan >>= λ linked. where_ordered Multicast unordered linked >>= λ ordered. Ok (ordered, past)) ≡ Ok x
-    → (judge (checks draft) ≡ Ok tt) × (misplaced ≡ None) × (unordered ≡ None) × ((scenario_of draft, past) ≡ x)
+    → (judge (checks draft) ≡ Ok tt) × (misplaced ≡ None) × (unordered ≡ None) × ((scenario_of draft, past) ≡ x) × (scenario_of_draft draft ≡ Ok (scenario_of draft))
 last_takes draft misplaced unordered past x e =
     let f = bind_ok (told (scenario_of_draft draft)) (λ plan. where_ordered Link misplaced plan >>= λ linked. where_ordered Multicast unordered linked >>= λ ordered. Ok (ordered, past)) x e in
     let h = bind_ok (where_ordered Link misplaced f.0) (λ linked. where_ordered Multicast unordered linked >>= λ ordered. Ok (ordered, past)) x f.2 in
     let g = bind_ok (where_ordered Multicast unordered h.0) (λ ordered. Ok (ordered, past)) x h.2 in
-    let sure = of_draft (judge (checks draft)) (scenario_of draft) f.0 f.1 in
+    let sure = of_draft draft f.0 f.1 in
     let link-order = of_order Link misplaced f.0 h.0 h.1 in
-    let order = of_order Multicast unordered h.0 g.0 g.1 in
-    (sure.0, link-order.0, order.0, ap (λ (plan : Scenario). (plan, past)) (sure.1 ∙ link-order.1 ∙ order.1) ∙ same_ok (g.0, past) x g.2)
+    let order = of_order Multicast unordered h.0 g.0 g.1 in (
+      sure.0,
+      link-order.0,
+      order.0,
+      ap (λ (plan : Scenario). (plan, past)) (sure.1 ∙ link-order.1 ∙ order.1) ∙ same_ok (g.0, past) x g.2,
+      given.given draft sure.0 sure.2,
+    )
 
 -- the lines that were taken are as many as the scenario has
 counted : (first all time tick from links messages ls ms z y a b k c last : ℕ) → all ≡ time + (tick + from) → from ≡ links + messages + 3 → messages ≡ ms → links ≡ ls
@@ -540,7 +549,7 @@ taken version p x z y a b k c d z-is y-is a-is b-is k-is c-is d-is after =
     let misplaced = first_misplaced_link b.1.number draft in
     let unordered = first_unordered b.0 k.1.number c.0 in
     let last = last_takes draft misplaced unordered d.1 x after in
-    let made-is : scenario_of_draft draft ≡ Ok (scenario_of draft) = rw last.0 refl in
+    let made-is = last.4 in
     let all = all_hold (checks draft) last.0 in
     let delay-within = within_any z.0 (pos a.0) all.0 in
     let names = all.1.1.1.1.1.1.1 in

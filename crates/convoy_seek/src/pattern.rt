@@ -3,7 +3,7 @@ ghost use Rattle.convoy_packets.specs.Assignment.{IsAssignment, IsWithin};
 
 use crate::chance::Chance;
 use crate::comings::Comings;
-use crate::waits::{some_may_wait, wait_past_commit};
+use crate::waits::{some_may_wait, wait_past_commit, wait_to_be_met};
 use convoy_packets::{Instance, Packet, Schedule};
 use convoy_scenario::Scenario;
 
@@ -167,7 +167,8 @@ impl Pattern {
         ensures { IsAssignment instance.now schedule.new }
     {
         self.lay_delays(instance, schedule);
-        self.lay_waits(instance, schedule);
+        self.lay_waits(instance, schedule, true);
+        self.lay_waits(instance, schedule, false);
     }
 
     /// Gives a schedule the delays of the pattern, and the least waits.
@@ -183,15 +184,18 @@ impl Pattern {
         }
     }
 
-    /// Gives a schedule of the pattern's delays its waits.
+    /// Gives a schedule of the pattern's delays the wait of the target, from whose commit the others are told, or
+    /// those of the others.
     #[tactic(auto, using(crate::proofs::Schedules::length_within))]
-    fn lay_waits(&self, instance: &Instance, schedule: &mut Schedule)
+    fn lay_waits(&self, instance: &Instance, schedule: &mut Schedule, of_target: bool)
         requires { IsAssignment instance.now schedule.old }
         ensures { IsAssignment instance.now schedule.new }
     {
         let table = instance.table();
         for i in 0..table.len() {
-            if let Packet::Wait { message } = table.packet(i) {
+            if let Packet::Wait { message } = table.packet(i)
+                && (message == instance.target_message()) == of_target
+            {
                 let wait = self.wait(instance, schedule, message, table.range(i));
                 schedule.set(i, wait);
             }
@@ -209,6 +213,9 @@ impl Pattern {
         requires { range.0 ≤ range.1 }
         ensures { IsWithin range result }
     {
+        if message == instance.target_message() {
+            return self.target_wait(instance, schedule, range);
+        }
         let stay = if message == self.rival {
             Stay::Meeting
         } else {
@@ -221,6 +228,18 @@ impl Pattern {
             Stay::After => 1,
         };
         let wait = wait_past_commit(instance, schedule, message, past).unwrap_or(0);
+        u16::try_from(wait)
+            .unwrap_or(u16::MAX)
+            .max(range.0)
+            .min(range.1)
+    }
+
+    /// The wait of the target of the range, in ticks: the least by which the rival can come by its commit.
+    fn target_wait(&self, instance: &Instance, schedule: &Schedule, range: (u16, u16)) -> u16
+        requires { range.0 ≤ range.1 }
+        ensures { IsWithin range result }
+    {
+        let wait = wait_to_be_met(instance, schedule, self.rival).unwrap_or(0);
         u16::try_from(wait)
             .unwrap_or(u16::MAX)
             .max(range.0)

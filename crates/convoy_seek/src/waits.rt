@@ -33,6 +33,16 @@ fn next_wait(instance: &Instance, message: usize) -> Option<u16> {
     None
 }
 
+/// How many ticks the target has to wait longer, if a message that waits least is to come to the target's group by its
+/// commit there, by the other delays of the schedule; None where it comes there by that anyway.
+pub fn wait_to_be_met(instance: &Instance, schedule: &Schedule, message: usize) -> Option<u64> {
+    let (target, group) = (instance.target_message(), instance.target_group());
+    let committed = settling(instance, schedule, target, group)?;
+    let coming = instance.table().multicast_delay(schedule, message, group);
+    let soonest = earliest_issue(instance, message)?.saturating_add(u64::from(coming));
+    soonest.checked_sub(committed)
+}
+
 /// The wait after which a message arrives at the target's group so many ticks after the target is
 /// committed there, in ticks, by the other delays of the schedule; None where there is no such wait.
 pub fn wait_past_commit(

@@ -95,12 +95,12 @@ fn step_of(shared: &Shared, branch: Branch, tried: bool, known: u32) -> Result<S
 {
     let Shared {
         alloc,
-        instance,
+        origin,
         bounds,
         limit,
         ..
     } = *shared;
-    match step_branch(alloc, instance, branch, tried, known, bounds, limit.splits) {
+    match step_branch(alloc, origin, branch, tried, known, bounds, limit.splits) {
         Ok(step) => Ok(step),
         Err((_, error)) => Err(error),
     }

@@ -12,6 +12,7 @@ use super::shared::Shared;
 use super::thief::rob;
 use super::workers::{OwnerWorker, ThiefWorker};
 use convoy_branch::Gate;
+use convoy_origin::Origin;
 use std::alloc::AllocError;
 use std::sync::Wait;
 use std::sync::atomic::Ordering;
@@ -35,7 +36,7 @@ pub(crate) fn run<R: Threads + Wait + Sync, G: Gate + Sync>(
         shared.ended.store(true, Ordering::SeqCst);
         return worked;
     };
-    // A closure's clauses are known only where no type that it takes along names a lifetime.
+    // A closure's clauses are known only where no type that it takes along names a lifetime, as an origin does.
     let Shared {
         alloc,
         instance,
@@ -46,6 +47,7 @@ pub(crate) fn run<R: Threads + Wait + Sync, G: Gate + Sync>(
         begun,
         ended,
         workers,
+        ..
     } = *shared;
     let (robbed, worked) = join(
         rt,
@@ -55,9 +57,11 @@ pub(crate) fn run<R: Threads + Wait + Sync, G: Gate + Sync>(
             ensures { let common = common_by bounds instance.entry.now board.entry.now
                 ledger.entry.now limit.may_stop in IfOk result (λ w. StaysThief common thief w) }
         {
+            let origin = Origin::of(alloc, instance)?;
             let shared = Shared {
                 alloc,
                 instance,
+                origin: &origin,
                 bounds,
                 limit,
                 board,
@@ -76,9 +80,11 @@ pub(crate) fn run<R: Threads + Wait + Sync, G: Gate + Sync>(
             ensures { let common = common_by bounds instance.entry.now board.entry.now
                 ledger.entry.now limit.may_stop in IfOk result (λ w. HasJoined common owner thieves.items w) }
         {
+            let origin = Origin::of(alloc, instance)?;
             let shared = Shared {
                 alloc,
                 instance,
+                origin: &origin,
                 bounds,
                 limit,
                 board,

@@ -30,6 +30,7 @@ use convoy_certificate::Certificate;
 use convoy_checker::tree_laws::trees_cover;
 use convoy_incumbent::{Board, CloseFault, Hand};
 use convoy_ledger::{Clerk, Ledger};
+use convoy_origin::Origin;
 use convoy_packets::schedule_laws::least_is_assignment;
 use convoy_packets::{Instance, Schedule};
 use convoy_sim::Record;
@@ -127,6 +128,7 @@ fn search_by<'a, R: Threads + Wait + Sync, G: Gate + Sync>(
     if workers == 1 {
         return convoy_branch::search_alone_from(alloc, instance, opening, limit, bounds, gate);
     }
+    let origin = Origin::of(alloc, instance)?;
     let Ok((board, hand)) = Board::open(rt, alloc, opening) else {
         return Err(AllocError);
     };
@@ -136,6 +138,7 @@ fn search_by<'a, R: Threads + Wait + Sync, G: Gate + Sync>(
     let shared = Shared {
         alloc,
         instance,
+        origin: &origin,
         bounds,
         limit,
         board: &board,
@@ -146,7 +149,7 @@ fn search_by<'a, R: Threads + Wait + Sync, G: Gate + Sync>(
     };
     let brought = search_together(rt, gate, &shared, hand, clerk)?;
     let closed = close(alloc, instance, bounds, limit, board, ledger, brought)?;
-    closed.into_outcome(instance, bounds)
+    closed.into_outcome(&origin, bounds)
 }
 
 /// Runs all workers, and puts together what they bring.
@@ -245,29 +248,29 @@ fn tickets_by_worker(alloc: Global, tickets: u64, thieves: &[u64]) -> Result<Vec
 
 impl Closed {
     /// The outcome: a certificate where no branch is left.
-    fn into_outcome(self, instance: &Instance, bounds: Bounds) -> Result<Outcome, AllocError>
+    fn into_outcome(self, origin: &Origin, bounds: Bounds) -> Result<Outcome, AllocError>
         requires closed { (workers : ℕ) × (limit : Limit)
-            × IsClosed bounds instance.now workers limit self }
-        requires least { latency_of instance.now (least_of (ranges_of instance.now))
+            × IsClosed bounds origin.now workers limit self }
+        requires least { latency_of origin.now (least_of (ranges_of origin.now))
             ≤ self.best.latency }
-        ensures value { (workers : ℕ) (limit : Limit) → IsClosed bounds instance.now workers limit self
-            → IfOk result (IsOutcomeWithin bounds instance.now workers limit) }
+        ensures value { (workers : ℕ) (limit : Limit) → IsClosed bounds origin.now workers limit self
+            → IfOk result (IsOutcomeWithin bounds origin.now workers limit) }
         ensures best { IfOk result (λ outcome. best_of outcome ≡ self.best.latency) }
     {
         if has_left(&self.pieces) {
-            self.into_open(instance, bounds)
+            self.into_open(origin, bounds)
         } else {
-            self.into_proved(instance, bounds)
+            self.into_proved(origin, bounds)
         }
     }
 
     /// The outcome where no branch is left.
-    fn into_proved(self, instance: &Instance, bounds: Bounds) -> Result<Outcome, AllocError>
+    fn into_proved(self, origin: &Origin, bounds: Bounds) -> Result<Outcome, AllocError>
         requires closed { (workers : ℕ) × (limit : Limit)
-            × IsClosed bounds instance.now workers limit self }
+            × IsClosed bounds origin.now workers limit self }
         requires none { list_any is_left self.pieces.items ≡ false }
-        ensures value { (workers : ℕ) (limit : Limit) → IsClosed bounds instance.now workers limit self
-            → IfOk result (IsOutcomeWithin bounds instance.now workers limit) }
+        ensures value { (workers : ℕ) (limit : Limit) → IsClosed bounds origin.now workers limit self
+            → IfOk result (IsOutcomeWithin bounds origin.now workers limit) }
         ensures best { IfOk result (λ outcome. best_of outcome ≡ self.best.latency) }
     {
         plain_fronts_have_no_stamps();
@@ -275,6 +278,7 @@ impl Closed {
         whole_fronts_are_readable();
         trees_cover();
         whole_fronts_are_trees();
+        let instance = origin.instance();
         let alloc = *self.by_worker.allocator();
         let nodes = nodes_of(alloc, &self.pieces)?;
         let latency = self.best.latency();
@@ -287,20 +291,20 @@ impl Closed {
     }
 
     /// The outcome where a branch is left.
-    fn into_open(self, instance: &Instance, bounds: Bounds) -> Result<Outcome, AllocError>
+    fn into_open(self, origin: &Origin, bounds: Bounds) -> Result<Outcome, AllocError>
         requires closed { (workers : ℕ) × (limit : Limit)
-            × IsClosed bounds instance.now workers limit self }
+            × IsClosed bounds origin.now workers limit self }
         requires some { list_any is_left self.pieces.items ≡ true }
-        requires least { latency_of instance.now (least_of (ranges_of instance.now))
+        requires least { latency_of origin.now (least_of (ranges_of origin.now))
             ≤ self.best.latency }
-        ensures value { (workers : ℕ) (limit : Limit) → IsClosed bounds instance.now workers limit self
-            → IfOk result (IsOutcomeWithin bounds instance.now workers limit) }
+        ensures value { (workers : ℕ) (limit : Limit) → IsClosed bounds origin.now workers limit self
+            → IfOk result (IsOutcomeWithin bounds origin.now workers limit) }
         ensures best { IfOk result (λ outcome. best_of outcome ≡ self.best.latency) }
     {
         fronts_bound();
         let seen = self.best.latency();
         let alloc = *self.by_worker.allocator();
-        let upper = upper_over(alloc, instance, bounds, &self.pieces, seen)?;
+        let upper = upper_over(alloc, origin, bounds, &self.pieces, seen)?;
         Ok(Outcome::Open {
             best: self.best,
             upper,

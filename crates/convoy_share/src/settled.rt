@@ -10,7 +10,7 @@ use super::piece::{Kept, Settled};
 use convoy_branch::Bounds;
 use convoy_branch::front_laws::{uppers_begin, uppers_raised};
 use convoy_certificate::Node;
-use convoy_packets::Instance;
+use convoy_origin::Origin;
 use std::alloc::{AllocError, Global};
 
 /// Whether a branch is left.
@@ -42,19 +42,19 @@ pub(crate) fn nodes_of(alloc: Global, pieces: &[Settled]) -> Result<Vec<Node>, A
 /// and the branches among the pieces are left.
 pub(crate) fn upper_over(
     alloc: Global,
-    instance: &Instance,
+    origin: &Origin,
     bounds: Bounds,
     pieces: &[Settled],
     seen: u32,
 ) -> Result<u32, AllocError>
-    requires pieces { (best : ℕ) × (put : List Region) × All (IsPiece instance.now best put) pieces.now }
-    ensures { IfOk result (λ upper. IsUpperOf bounds instance.now seen (left_regions pieces.now) upper) }
+    requires pieces { (best : ℕ) × (put : List Region) × All (IsPiece origin.now best put) pieces.now }
+    ensures { IfOk result (λ upper. IsUpperOf bounds origin.now seen (left_regions pieces.now) upper) }
 {
     uppers_begin();
     uppers_raised();
     let mut upper = seen;
     for piece in pieces {
-        upper = raised_over(alloc, instance, piece, upper, bounds)?;
+        upper = raised_over(alloc, origin, piece, upper, bounds)?;
     }
     Ok(upper)
 }
@@ -62,17 +62,17 @@ pub(crate) fn upper_over(
 /// What a piece raises an upper bound to, in ticks: a branch that is left, and nothing else.
 fn raised_over(
     alloc: Global,
-    instance: &Instance,
+    origin: &Origin,
     piece: &Settled,
     upper: u32,
     bounds: Bounds,
 ) -> Result<u32, AllocError>
-    requires piece { (best : ℕ) × (put : List Region) × IsPiece instance.now best put piece.now }
+    requires piece { (best : ℕ) × (put : List Region) × IsPiece origin.now best put piece.now }
     ensures { IfOk result
-        (λ raised. IsRaisedOver bounds instance.now piece.now upper raised) }
+        (λ raised. IsRaisedOver bounds origin.now piece.now upper raised) }
 {
     match piece.kept() {
-        Kept::Todo { branch, .. } => bounds.raised(alloc, instance, branch, upper),
+        Kept::Todo { branch, .. } => bounds.raised(alloc, origin, branch, upper),
         Kept::Done(_) | Kept::Pushed(_) => Ok(upper),
     }
 }

@@ -3,6 +3,7 @@ ghost use Rattle.std.specs.Prelude.{◌≡◌};
 use convoy_branch::{Bounds, Limit};
 use convoy_incumbent::Board;
 use convoy_ledger::Ledger;
+use convoy_origin::Origin;
 use convoy_packets::Instance;
 use std::alloc::Global;
 use std::sync::atomic::AtomicBool;
@@ -13,6 +14,8 @@ use std::sync::atomic::AtomicBool;
 pub(crate) struct Shared<'a> {
     pub alloc: Global,
     pub instance: &'a Instance,
+    /// The instance with the one of which bounds are asked.
+    pub origin: &'a Origin<'a>,
     pub bounds: Bounds,
     pub limit: Limit,
     pub board: &'a Board,
@@ -24,4 +27,5 @@ pub(crate) struct Shared<'a> {
     /// How many workers there are.
     pub workers: u32,
     ghost of_scenario: { board.now.scenario ≡ instance.now },
+    ghost same: { origin.now ≡ instance.now },
 }

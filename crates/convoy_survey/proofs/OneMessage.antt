@@ -7,8 +7,8 @@ use Rattle.std.proofs.lemmas.Bool.Decides.{nat_tests}
 use Rattle.std.proofs.lemmas.List.{length-map}
 use Rattle.std.proofs.lemmas.List.Elements.{filter-append}
 use Rattle.convoy_stamps.proofs.Loops.{flat_map_range_more}
-use Rattle.convoy_scenario.specs.Scenario.{Scenario, may_wait, message_at}
-use Rattle.convoy_scenario.specs.Targets.{targets_at, targets_of}
+use Rattle.convoy_scenario.specs.Scenario.{Scenario, message_at}
+use Rattle.convoy_scenario.specs.Targets.{may_be_target, targets_at, targets_of}
 
 -- the target is one of message m
 abbrev IsOf : ℕ → ℕ × ℕ → Bool
@@ -40,7 +40,7 @@ filter_groups m k (g ∷ gs) = by_test (k == m) (filter_groups m k gs) where
   by_test false rest = rest
 
 filter_message : (scenario : Scenario) (m k : ℕ) → filter (IsOf m) (targets_at scenario k) ≡ cond (k == m) (targets_at scenario k) []
-filter_message scenario m k = by_wait (may_wait (message_at scenario k)) where
+filter_message scenario m k = by_room (may_be_target scenario k) where
   groups : List ℕ
   groups = (message_at scenario k).destinations
 
@@ -48,9 +48,9 @@ filter_message scenario m k = by_wait (may_wait (message_at scenario k)) where
   none true = refl
   none false = refl
 
-  by_wait : (waits : Bool) → filter (IsOf m) (cond waits [] (map (λ (g : ℕ). (k, g)) groups)) ≡ cond (k == m) (cond waits [] (map (λ (g : ℕ). (k, g)) groups)) []
-  by_wait true = none (k == m)
-  by_wait false = filter_groups m k groups
+  by_room : (room : Bool) → filter (IsOf m) (cond room (map (λ (g : ℕ). (k, g)) groups) []) ≡ cond (k == m) (cond room (map (λ (g : ℕ). (k, g)) groups) []) []
+  by_room true = filter_groups m k groups
+  by_room false = none (k == m)
 
 -- the targets of the first n messages
 abbrev Before : Scenario → ℕ → List (ℕ × ℕ)
@@ -110,14 +110,14 @@ groups_of_rows {X = X} target scenario m rows targets some = by_number (cases_Bo
   not_none : map target kept ≡ [] → ⊥
   not_none none = let count : length kept ≡ 0 = sym (length-map kept target) ∙ ap length none in omega (arith, some, count)
 
-  by_wait : (waits : Bool) → map target kept ≡ cond waits [] (map (λ (g : ℕ). (m, g)) groups) → map (λ (row : X). (target row).1) kept ≡ groups
-  by_wait true is = absurd (not_none is)
-  by_wait false is = sym (map_map (λ (t : ℕ × ℕ). t.1) target kept) ∙ ap (map (λ (t : ℕ × ℕ). t.1)) is ∙ groups_back m groups
+  by_room : (room : Bool) → map target kept ≡ cond room (map (λ (g : ℕ). (m, g)) groups) [] → map (λ (row : X). (target row).1) kept ≡ groups
+  by_room false is = absurd (not_none is)
+  by_room true is = sym (map_map (λ (t : ℕ × ℕ). t.1) target kept) ∙ ap (map (λ (t : ℕ × ℕ). t.1)) is ∙ groups_back m groups
 
   by_number : (nat_lt m (length scenario.multicasts) ≡ true) ⊎ (nat_lt m (length scenario.multicasts) ≡ false) → map (λ (row : X). (target row).1) kept ≡ groups
   by_number (inl known) =
       let less : m < length scenario.multicasts = grind (arith, nat_tests, known) in
-      by_wait (may_wait (message_at scenario m)) (as_asked ∙ from_here scenario m (length scenario.multicasts) less)
+      by_room (may_be_target scenario m) (as_asked ∙ from_here scenario m (length scenario.multicasts) less)
   by_number (inr unknown) =
       let more : length scenario.multicasts ≤ m = grind (arith, nat_tests, unknown) in
       absurd (not_none (as_asked ∙ none_before scenario m (length scenario.multicasts) more))

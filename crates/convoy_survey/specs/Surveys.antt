@@ -3,8 +3,9 @@ use Rattle.std.specs.Prelude.{◌≡◌, ℕ, ◌<◌, Bool, List, length, map, 
 use Rattle.std.specs.List.{All, list_any}
 use denote.Ref.{Bor}
 use Rattle.std.specs.declared.alloc.AllocError.{AllocError}
-use Rattle.convoy_scenario.specs.Scenario.{Scenario, GoesTo, message_at}
-use Rattle.convoy_scenario.specs.Targets.{targets_of}
+use Rattle.convoy_scenario.specs.Room.{HasRoom}
+use Rattle.convoy_scenario.specs.Scenario.{Scenario, GoesTo}
+use Rattle.convoy_scenario.specs.Targets.{targets_of, with_target}
 use Rattle.convoy_scenario.specs.WellFormed.{IsScenario}
 use Rattle.convoy_toml.specs.declared.asked.Asked.{Asked}
 use Rattle.convoy_toml.specs.Reading.{deadlines_of_text, scenario_of_text_by}
@@ -24,11 +25,11 @@ use Rattle.convoy_survey.specs.Findings.{IsRowBy, MayAnswer, is_fault, target_of
 use Rattle.convoy_survey.specs.Judgements.{is_finding_beyond, is_finding_open}
 use Rattle.convoy_survey.specs.Times.{times_of}
 
--- the message may be the target of the scenario at the group: it goes there, and does not wait
+-- the message may be the target of the scenario at the group: it goes there, and its window has room
 pub record IsTarget (scenario : Scenario) (message group : ℕ) : Type 0 where
   pub known : message < length scenario.multicasts
   pub addressed : GoesTo scenario message group
-  pub fixed : (message_at scenario message).longest_wait ≡ 0
+  pub room : HasRoom (with_target scenario message group)
 
 -- a call on these terms may be made for each target of the scenario
 abbrev pub TakesTargets : Scenario → (ℕ → ℕ → Type 0) → Type 0
@@ -49,7 +50,7 @@ pub record TellsTarget (may_answer : ℕ → ℕ → Result Finding AllocError �
   pub of_target : target_of row ≡ target
   pub told : IsRowBy may_answer row
 
--- There is a row for each message that does not wait, at each group that it goes to, in their order, and each tells what the search for that target answered, where such answers may be given.
+-- There is a row for each message that may be the target, at each group that it goes to, in their order, and each tells what the search for that target answered, where such answers may be given.
 pub record AreRowsBy (scenario : Scenario) (may_answer : ℕ → ℕ → Result Finding AllocError → Type 0) (rows : List Surveyed) : Type 0 where
   pub targets : map target_of rows ≡ targets_of scenario
   pub told : All (IsRowBy may_answer) rows

@@ -14,7 +14,7 @@ use convoy_scenario::naming::group_name;
 use std::alloc::{AllocError, Global};
 use std::thread::Threads;
 
-/// The ceiling of each message of a scenario that does not wait, at each group that it goes to, in the
+/// The ceiling of each message of a scenario that may be its target, at each group that it goes to, in the
 /// order of their numbers; where a group is named, at that group alone. For each of them traffic that
 /// attains the ceiling is sought by at most so many simulations. Where memory runs out for one of them,
 /// nothing is told of its traffic, and the others are sought all the same. Where no group has the name

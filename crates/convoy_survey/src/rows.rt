@@ -1,6 +1,8 @@
 ghost use Rattle.std.specs.Prelude.{◌≡◌, ◌<◌, [], ◌∷◌, ◌++◌, length, IfOk, OnOk};
 ghost use Rattle.std.specs.List.{All};
-ghost use Rattle.convoy_scenario.specs.Targets.{targets_at, targets_of};
+ghost use Rattle.convoy_scenario.specs.Room.{HasRoom};
+ghost use Rattle.convoy_scenario.specs.Scenario.{GoesTo};
+ghost use Rattle.convoy_scenario.specs.Targets.{targets_at, targets_of, with_target};
 ghost use Rattle.convoy_survey.specs.Findings.{MayAnswer};
 ghost use Rattle.convoy_survey.specs.Surveys.{AreRowsBy, AreSurveyed, IsTarget, IsTargetPair, MayAnswerBy, TakesTargets, TellsTarget};
 ghost use denote.Ref.{Bor};
@@ -16,7 +18,8 @@ use std::sync::Wait;
 use std::thread::Threads;
 
 /// Searches for the greatest latency of each message of a scenario at each group that it goes to, in the
-/// order of their numbers, but for messages that may wait: a latency counts from an issue that is known.
+/// order of their numbers, counted from the message's own issue. A message of which the window and that of another
+/// one are longer than one may be has no row (docs/FORMATS.md, "Windows of the target").
 /// Each search goes as [`latency_answer`](convoy_commands::latency_answer) does with these options: by
 /// their limit of tickets, by their bounds or both ways, and with their number of workers. Where memory
 /// runs out for one of them, that is what its row tells, and the others are searched all the same. As many
@@ -85,7 +88,7 @@ fn row_by<W, F: Fn(usize, usize, &W) -> Result<Finding, AllocError>>(
     }
 }
 
-/// Each message of a scenario at each group that it goes to, but for messages that may wait.
+/// Each message of a scenario that may be its target, at each group that it goes to.
 pub(crate) fn targets_of(
     alloc: Global,
     scenario: &Scenario,
@@ -100,7 +103,7 @@ pub(crate) fn targets_of(
     Ok(targets)
 }
 
-/// Appends a message at each group that it goes to, unless it may wait.
+/// Appends a message at each group that it goes to, if it may be the target.
 fn push_message(
     scenario: &Scenario,
     message: usize,
@@ -111,7 +114,7 @@ fn push_message(
     ensures targets { OnOk result (targets.new.items ≡ targets.old.items ++ targets_at scenario.now message) }
     ensures lawful { OnOk result (All (IsTargetPair scenario.now) targets.new.items) }
 {
-    if 0 < scenario.longest_wait(message) {
+    if !scenario.may_be_target(message) {
         return Ok(());
     }
     for group in scenario.destinations(message) {
@@ -120,14 +123,16 @@ fn push_message(
     Ok(())
 }
 
-/// Appends a message at a group that it goes to; it is one that does not wait.
+/// Appends a message at a group that it goes to; it is one that may be the target.
 fn push_target(
     _scenario: &Scenario,
     message: usize,
     group: usize,
     targets: &mut Vec<(usize, usize)>,
 ) -> Result<(), AllocError>
-    requires target { IsTarget _scenario.now message group }
+    requires known { message < length _scenario.now.multicasts }
+    requires addressed { GoesTo _scenario.now message group }
+    requires room { HasRoom (with_target _scenario.now message group) }
     requires lawful { All (IsTargetPair _scenario.now) targets.old.items }
     ensures targets { OnOk result (targets.new.items ≡ targets.old.items ++ (message, group) ∷ []) }
     ensures lawful { OnOk result (All (IsTargetPair _scenario.now) targets.new.items) }

@@ -1,5 +1,5 @@
 -- The text of an explanation: why a schedule has its latency, of which a certificate shows that it is the greatest.
-use Rattle.std.specs.Prelude.{ℕ, ◌==◌, ◌&&◌, nat_lt, List, [], ◌∷◌, ◌++◌, Option, Some, None, codes, decimal, if◌then◌else◌}
+use Rattle.std.specs.Prelude.{ℕ, ◌-◌, ◌==◌, ◌&&◌, not, nat_lt, List, [], ◌∷◌, ◌++◌, Option, Some, None, codes, decimal, if◌then◌else◌}
 use Rattle.std.specs.List.{flat_map}
 use Rattle.convoy_scenario.specs.declared.sender.Sender.{Sender}
 use Rattle.convoy_scenario.specs.declared.sender.Sender.TheVariants.{Client, Group}
@@ -63,14 +63,20 @@ in_unit_text (Some measure) ticks =
 unfoldable pub ticks_text : Option Measure → ℕ → List ℕ
 ticks_text measure ticks = decimal ticks ++ 32 ∷ (tick_word ticks ++ in_unit_text measure ticks)
 
--- how late the target is, and when
+-- how late the target is, and when: its issue is so many ticks before its delivery
 unfoldable pub latency_text : Option Measure → Scenario → Explanation → List ℕ
 latency_text measure scenario why =
     message_name_at scenario scenario.target_message
     ++ (codes " at " ++ (group_name_at scenario scenario.target_group
     ++ (codes ": at worst " ++ (ticks_text measure why.latency
-    ++ (codes ", from its issue at tick " ++ (decimal (message_at scenario scenario.target_message).at
+    ++ (codes ", from its issue at tick " ++ (decimal (why.delivered - why.latency)
     ++ (codes " to its delivery at tick " ++ (decimal why.delivered ++ 10 ∷ []))))))))
+
+-- from when to when the target may be issued, if it may wait; where it is the awaited message that is told there
+abbrev pub target_window_text : Scenario → LastProposal → List ℕ
+target_window_text scenario last =
+    if may_wait (message_at scenario scenario.target_message) && not (last.message == scenario.target_message)
+    then window_text scenario scenario.target_message ++ 10 ∷ [] else []
 
 -- that the order of a tie gave the target its stamp: another message came to the group of that stamp in the same tick, and before it
 abbrev pub tied_text : Scenario → Option ℕ → List ℕ
@@ -186,7 +192,8 @@ last_text scenario last =
 unfoldable pub text_of : Option Measure → Scenario → Explanation → List Rise → ℕ → List ℕ
 text_of measure scenario why rises nodes =
     latency_text measure scenario why
+    ++ (target_window_text scenario why.last
     ++ (commit_text scenario why
     ++ (rises_text scenario rises
     ++ (holder_text scenario why why.holder
-    ++ (last_text scenario why.last ++ worst_text nodes))))
+    ++ (last_text scenario why.last ++ worst_text nodes)))))

@@ -4,7 +4,7 @@ ghost use Rattle.convoy_timeline.specs.Explanations.{answered_text, awaited_text
 ghost use Rattle.convoy_timeline.specs.Explanations.{doing_word, gap_after, holder_text, last_text, latency_text};
 ghost use Rattle.convoy_timeline.specs.Explanations.{node_word, rise_line, rises_text, sent_text, text_of, with_stamp_text};
 ghost use Rattle.convoy_timeline.specs.Explanations.{in_unit_text, issue_text, ticks_text, tie_won_text};
-ghost use Rattle.convoy_timeline.specs.Explanations.{tied_text, wait_text, way_text, window_text, worst_text};
+ghost use Rattle.convoy_timeline.specs.Explanations.{target_window_text, tied_text, wait_text, way_text, window_text, worst_text};
 
 use super::explanation::{Explanation, Flight, Holder, LastProposal, Rise};
 use super::words::{sender_name, stamp_text, tick_word};
@@ -70,6 +70,7 @@ fn text(
 {
     let mut text = Vec::new(alloc);
     text.extend_from_slice(latency_line(alloc, scenario, measure, why)?.as_bytes())?;
+    text.extend_from_slice(target_window_line(alloc, scenario, &why.last)?.as_bytes())?;
     text.extend_from_slice(commit_line(alloc, scenario, why)?.as_bytes())?;
     text.extend_from_slice(rise_lines(alloc, scenario, rises)?.as_bytes())?;
     text.extend_from_slice(holder_line(alloc, scenario, why)?.as_bytes())?;
@@ -90,11 +91,28 @@ fn latency_line(
     let message = message_name(scenario, scenario.target_message());
     let group = group_name(scenario, scenario.target_group());
     let latency = ticks_text(alloc, measure, why.latency)?;
-    let issue = scenario.issue_tick(scenario.target_message());
+    let issue = why.delivered.saturating_sub(why.latency);
     format!(in alloc;
         "{message} at {group}: at worst {latency}, from its issue at tick {issue} to its delivery at tick {}\n",
         why.delivered,
     )
+}
+
+/// From when to when the target may be issued, if it may wait and is not the awaited message, of which that is told.
+fn target_window_line(
+    alloc: Global,
+    scenario: &Scenario,
+    last: &LastProposal,
+) -> AllocResult<String>
+    ensures { IfOk result (λ line. string_bytes line ≡ target_window_text scenario.now last.now) }
+{
+    let target = scenario.target_message();
+    if may_wait(scenario, target) && last.message != target {
+        let window = window_text(alloc, scenario, target)?;
+        format!(in alloc; "{window}\n")
+    } else {
+        Ok(String::new(alloc))
+    }
 }
 
 /// When the target is committed at its group, and with which stamp.

@@ -2,7 +2,7 @@
 use Rattle.std.proofs.Common.{◌≡◌, refl, true, false, pos, negsuc, [], ◌∷◌, Option, Some, None, ℕ, ℤ, List, Result, Ok, Err, codes}
 use Rattle.toml.specs.Data.{Data, Items, no_items, item, Members, no_members, member, string, integer, boolean, array, table}
 use Rattle.convoy_draft.specs.declared.fault.ScenarioFault.{ScenarioFault}
-use Rattle.convoy_draft.specs.declared.fault.ScenarioFault.TheVariants.{Shape, NotWhole, OverLimit, NoDestination, LinkToItself, TargetWaits, NoRange}
+use Rattle.convoy_draft.specs.declared.fault.ScenarioFault.TheVariants.{Shape, NotWhole, OverLimit, NoDestination, LinkToItself, NoRange}
 use Rattle.convoy_draft.specs.declared.fault.Key.TheVariants as key
 use Rattle.convoy_draft.specs.declared.fault.Limit.TheVariants as limit
 use Rattle.convoy_scenario.specs.declared.sender.Sender.TheVariants.{Client}
@@ -10,6 +10,7 @@ use Rattle.convoy_draft.specs.declared.time.Time.{Time}
 use Rattle.convoy_draft.specs.declared.time.Time.TheVariants.{Ticks, Real}
 use Rattle.convoy_draft.specs.Durations.{duration_of}
 use Rattle.convoy_scenario.specs.Scenario.{Link, Scenario, message_at}
+use Rattle.convoy_scenario.specs.Widened.{target_wait}
 use Rattle.convoy_scenario.proofs.RowScenarios.{of_two}
 use Rattle.convoy_lines.specs.Results.{◌>>=◌}
 use Rattle.convoy_toml.specs.Reading.{as_written, input_of_table, of_any_target, scenario_of_input}
@@ -158,6 +159,17 @@ untargeted more = member (codes "delay") (integer (pos 3)) (member (codes "group
 
 target_left_out : scenario_of_input (input_of_table of_any_target (untargeted no_members)) ≡ Ok (lone (codes "b" ∷ codes "a" ∷ []) 1)
 target_left_out = refl
+
+-- the first message is left out as the target where it has a window, unless each has one
+first_without_window : scenario_of_input (input_of_table of_any_target (member (codes "delay") (integer (pos 3)) (member (codes "groups") (array (item (string (codes "a")) no_items))
+    (member (codes "multicast") (array (item (table (message_table (member (codes "until") (integer (pos 1)) no_members))) (one (member (codes "name") (string (codes "y")) (member (codes "at") (integer (pos 2)) (member (codes "to") (array (item (string (codes "a")) no_items)) no_members)))))) no_members))))
+    >>= (λ scenario. Ok scenario.target_message) ≡ Ok 1
+first_without_window = refl
+
+first_with_window : scenario_of_input (input_of_table of_any_target (member (codes "delay") (integer (pos 3)) (member (codes "groups") (array (item (string (codes "a")) no_items))
+    (member (codes "multicast") (array (one (message_table (member (codes "until") (integer (pos 1)) no_members)))) no_members))))
+    >>= (λ scenario. Ok (target_wait scenario)) ≡ Ok 1
+first_with_window = refl
 
 target_needed : scenario_of_table (untargeted no_members) ≡ Err (Shape key.Target)
 target_needed = refl
@@ -384,8 +396,18 @@ until_in_whole_ticks = refl
 until_at_top : scenario_of_table (top (one (message_table no_members)) (target_table no_members) (member (codes "until") (integer (pos 10)) no_members)) ≡ Err (Shape key.Unknown)
 until_at_top = refl
 
-target_with_until : scenario_of_table (top (one (message_table (member (codes "until") (integer (pos 1)) no_members))) (target_table no_members) no_members) ≡ Err TargetWaits
+-- how long the target waits at most, where it may be issued from tick 0 until the first tick, and the second message from tick 0 until the other
+abbrev target_wait_read : ℕ → ℕ → Result ℕ ScenarioFault
+target_wait_read until other =
+    scenario_of_table (top (item (table (message_table (member (codes "until") (integer (pos until)) no_members))) (one (window_table (integer (pos 0)) (integer (pos other)) no_members)))
+    (target_table no_members) no_members)
+    >>= λ scenario. Ok (target_wait scenario)
+
+target_with_until : target_wait_read 1 65_534 ≡ Ok 1
 target_with_until = refl
+
+target_without_room : target_wait_read 2 65_534 ≡ Err (OverLimit limit.Until)
+target_without_room = refl
 
 target_until_its_tick : scenario_of_table (top (one (message_table (member (codes "until") (integer (pos 0)) no_members))) (target_table no_members) no_members) ≡ scenario_of_table (top (one (message_table no_members)) (target_table no_members) no_members)
 target_until_its_tick = refl

@@ -11,7 +11,7 @@ pub enum TargetKey {
     /// The table `target` has to be there.
     Required,
     /// It may be left out: the target is then the first message that is issued at a time that is
-    /// written, at the first group that it goes to.
+    /// written, or the first of all where there is none such, at the first group that it goes to.
     Optional,
     /// It does not matter: the target is the message of that name at the group of that name.
     Named { message: Name, group: Name },

@@ -4,7 +4,7 @@ use Rattle.convoy_branch.proofs.above.descend.Given as goal
 
 abbrev pub invariant-loop : goal.invariant-loop
 invariant-loop g l = record {
-  instance_is : l.above.instance.now ≡ l.instance;
+  origin_is : l.above.origin.now ≡ l.fn.origin;
   above : IsAbove l.above;
   rises : l.fn.found.best.latency ≤ l.above.best.latency;
 }

@@ -6,12 +6,12 @@ use Rattle.convoy_branch.proofs.step.step_branch.Goals.{in-Some, in-None+in_ok-t
 pub returns-clause-value : goal.returns-clause-value
 returns-clause-value c =
     let bounds = c.args.bounds in
-    let plan = c.args.instance.now in
+    let plan = c.args.origin.now in
     let region = c.args.branch.region in
     let look = c.in-Ok.look in
     let shows = c.in-Ok.ensures.value in
     let known = known_after c.args.seen look.found in
-    let least = c.stamp_bound_at_most_plain.ensures plan region.ranges in
+    let least = c.stamp_at_most_plain_from_origin.ensures plan region.ranges in
     record {
       found = shows.found;
       turn = elim c.match-leaf.branch [

@@ -11,7 +11,7 @@ loop-place-init c =
 pub loop-place-preserved : goal.loop-place-preserved
 loop-place-preserved c =
     let grounds : Grounds = record { root = c.root_is_box.ensures; all = c.root_holds_all.ensures; halves = c.halves_are_boxes.ensures; part = c.halves_partition.ensures; leaves = record { bound = c.leaves_cover.ensures.bound; point = c.leaves_cover.ensures.point; stamp = c.leaves_cover.ensures.stamp; lead = c.leaves_cover.ensures.lead } } in
-    IsReplaying-after c.args.instance.now c.args.events.now c.loop-place.place c.loop-place.core c.follow.new.self c.index-events-place.result grounds c.requires.records c.loop-place-test.true c.index-events-place.is c.in_ok-follow.ensures.found (sym c.in_ok-is_lawful.ensures ∙ c.if-not-branch.false) c.in_ok-follow.ensures.after c.loop-place.invariant
+    IsReplaying-after c.args.instance.now c.args.events.now c.loop-place.place c.loop-place.core c.follow.new.self c.index-events-place.result grounds c.requires.records c.loop-place-test.true c.index-events-place.is c.in_ok-follow.ensures.found (rw c.in_ok-origin.ensures at (sym c.in_ok-is_lawful.ensures ∙ c.if-not-branch.false)) c.in_ok-follow.ensures.after c.loop-place.invariant
 
 pub returns-clause-state : goal.returns-clause-state
 returns-clause-state c =

@@ -1,10 +1,16 @@
 use Rattle.std.proofs.Common.{◌≡◌, ◌∙◌, ℕ, List, Option, false, refl, subst}
+use Rattle.std.proofs.lemmas.Result.{err_from_is_err_and}
 use Rattle.convoy_survey.specs.declared.finding.Surveyed.{Surveyed}
 use Rattle.convoy_tables.specs.declared.format.Format.TheVariants.{Html}
 use Rattle.convoy_what_if.specs.WhatIf.{WhatIfSays}
 use Rattle.convoy_report.specs.Reports.{AreRunsOf, shown_targets}
-use Rattle.convoy_report.proofs.Replies.{said}
+use Rattle.convoy_report.proofs.Replies.{changes_refused, said}
 use Rattle.convoy_report.proofs.answering.report_of.Goals as goal
+
+pub returns-in_err-changes : goal.returns-in_err-changes
+returns-in_err-changes g c =
+    let returned = err_from_is_err_and c.from_residual-in_err-changes.result c.from_residual-in_err-changes.ensures.1 in
+    rw (returned.1, returned.2) (changes_refused c.args.asked.now c.args.options.now c.args.text.now _ c.in_err-changes.ensures)
 
 pub returns : goal.returns
 returns g c =

@@ -8,5 +8,4 @@ unfolding latency_text digits
 returns c =
     let message = rw c.target_message.ensures.value at c.message_name-message.ensures in
     let group = rw c.target_group.ensures.value at c.group_name-group.ensures in
-    let issue = rw c.target_message-2.ensures.value at c.issue_tick-issue.ensures.value in
-    simp (sym message, sym group, sym c.in_ok-latency.ensures, sym issue) c.format.ensures.ok
+    simp (sym message, sym group, sym c.in_ok-latency.ensures, sym c.saturating_sub-issue.ensures) c.format.ensures.ok

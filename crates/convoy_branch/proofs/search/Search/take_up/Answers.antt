@@ -8,18 +8,18 @@ use Rattle.convoy_branch.proofs.search.Search.take_up.Goals as goal
 pub step_branch-requires-clause-of_scenario : goal.step_branch-requires-clause-of_scenario
 step_branch-requires-clause-of_scenario c =
     let old = c.args.self.now in
-    (next_is c.args.bounds c.args.instance.now old.best old.work.items old.nodes.items old.tickets c.args.branch c.args.tried c.requires.searching).2
+    (next_is c.args.bounds c.args.origin.now old.best old.work.items old.nodes.items old.tickets c.args.branch c.args.tried c.requires.searching).2
 
 pub step_branch-requires-clause-known : goal.step_branch-requires-clause-known
 step_branch-requires-clause-known c =
     let old = c.args.self.now in
-    subst (λ (n : ℕ). IsTriedIf c.args.instance.now c.args.branch.region c.args.tried n) (sym c.latency-seen.ensures.value)
-    (next_is c.args.bounds c.args.instance.now old.best old.work.items old.nodes.items old.tickets c.args.branch c.args.tried c.requires.searching).1
+    subst (λ (n : ℕ). IsTriedIf c.args.origin.now c.args.branch.region c.args.tried n) (sym c.latency-seen.ensures.value)
+    (next_is c.args.bounds c.args.origin.now old.best old.work.items old.nodes.items old.tickets c.args.branch c.args.tried c.requires.searching).1
 
 pub returns-clause-turned : goal.returns-clause-turned
 returns-clause-turned c =
     let bounds = c.args.bounds in
-    let plan = c.args.instance.now in
+    let plan = c.args.origin.now in
     let old = c.args.self.now in
     let new = c.follow.new.self in
     let step = c.in-Ok.step in
