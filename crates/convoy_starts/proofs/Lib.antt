@@ -8,3 +8,4 @@ pub mod CoveredTicks
 pub mod SteadyStarts
 pub mod MostLaws
 pub mod Rooms
+pub mod LowStarts

@@ -407,6 +407,15 @@ module _ (scenario : Scenario) (tables : LeadTables) (sure : Sure) (pair : Pair)
       (λ k d l same. outside (next_arrival scenario.time (get_or starts k d).at) (firsts k d l same))
       (λ k d l same. outside (next_arrival scenario.time (next_arrival scenario.time (get_or starts k d).at)) (seconds k d l same)))
 
+  -- nor does the stamp change where the message has come to the group by then in any case
+  pub stamp_for_last : (starts : List Start) (tick later : Tick) (x f : ℕ) → 0 < tick → tick ≤ later
+      → tables.times.greatest_arrival pair.message f ≤ arrives_by tables tick pair.message pair.group f
+      → stamp_for scenario tables sure starts later x pair.message pair.group f ≡ stamp_for scenario tables sure starts tick x pair.message pair.group f
+  stamp_for_last starts tick later x f some late last =
+      let same : arrives_by tables later pair.message pair.group f ≡ arrives_by tables tick pair.message pair.group f = omega arith in
+      ap₂ (λ (m : Bool) (by : ℕ). cond (not (f == pair.group) && m) (stamp_high scenario tables.times sure starts x pair.message f by) 0)
+      (lt-ltb 0 later (omega arith) ∙ sym (lt-ltb 0 tick some)) same
+
   -- so it raises the clock as before until one of these stamps changes, or a message surely arrives no later any more
   pub steady : (starts : List Start) (tick later : Tick) → tick ≤ later
       → All (λ z. tick < tables.times.least_arrival z pair.group → later < tables.times.least_arrival z pair.group) (addressed_to scenario pair.group)

@@ -138,10 +138,14 @@ impl<'a> Setting<'a> {
             return u32::MAX;
         }
         let by = self.arrives_by(tick, message, group, from);
+        let last = self.windows.greatest_arrival(message, from);
+        if last <= by {
+            return u32::MAX;
+        }
         let next = self
             .next_follower(message, from, by)
             .min(next_start(self.time, starts, from, by));
-        if self.windows.greatest_arrival(message, from) < next {
+        if last < next {
             return u32::MAX;
         }
         next.saturating_add(self.windows.least_proposal(message, from, group).max(1))

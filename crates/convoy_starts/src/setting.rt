@@ -1,5 +1,5 @@
-ghost use Rattle.std.specs.Prelude.{◌≡◌, ℕ, ◌*◌, ◌<◌, ◌≤◌, ◌==◌, length, map, slice_index, All, not};
-ghost use Rattle.std.specs.List.{filter, range_with_len};
+ghost use Rattle.std.specs.Prelude.{◌≡◌, ℕ, ◌*◌, ◌<◌, ◌≤◌, length, map, slice_index, All};
+ghost use Rattle.std.specs.List.{range_with_len};
 ghost use Rattle.convoy_draft.specs.declared.limits.TheConstants.{MOST_GROUPS, MOST_MULTICASTS};
 ghost use Rattle.convoy_sim.specs.Delivery.{addressed_to};
 ghost use Rattle.convoy_sure.specs.SureLeads.{pair_count, sure_after, sure_later};
@@ -64,7 +64,7 @@ impl<'a> Setting<'a> {
 
     /// Whether message `z` may arrive at a group at the tick `since` or later, and before message
     /// `q`, which arrives there by that tick.
-    fn may_arrive(&self, tick: u32, q: usize, group: usize, since: u32, z: usize) -> bool
+    pub(crate) fn may_arrive(&self, tick: u32, q: usize, group: usize, since: u32, z: usize) -> bool
         requires message { z < MOST_MULTICASTS }
         requires group { group < MOST_GROUPS }
         ensures { result ≡ may_arrive self.now.scenario.now.time
@@ -121,17 +121,4 @@ impl<'a> Setting<'a> {
     {
         those_later(self.windows, self.addressed_to(group), tick, group)
     }
-}
-
-/// Those of the messages that are not `other`.
-pub(crate) fn without(messages: &Messages, other: usize) -> Messages
-    ensures { result ≡ filter (λ z. not (z == other)) messages.now }
-{
-    let mut rest = Messages::new();
-    for z in messages.numbers() {
-        if *z != other {
-            rest.push(*z);
-        }
-    }
-    rest
 }

@@ -1,4 +1,4 @@
-ghost use Rattle.std.specs.Prelude.{◌≡◌, ℕ, ◌+◌, ◌*◌, ◌<◌, ◌≤◌, ◌==◌, not, max, min, length, map, slice_index, All};
+ghost use Rattle.std.specs.Prelude.{◌≡◌, ◌≢◌, ℕ, ◌+◌, ◌*◌, ◌<◌, ◌≤◌, ◌==◌, not, max, min, length, map, slice_index, All, IsFalse};
 ghost use Rattle.std.specs.List.{filter};
 ghost use Rattle.convoy_sim.specs.Moments.{next_arrival};
 ghost use Rattle.convoy_draft.specs.declared.limits.TheConstants.{MOST_GROUPS, MOST_MULTICASTS};
@@ -10,7 +10,7 @@ ghost use Rattle.convoy_starts.specs.Mosts.{AreFor, AreCurrent, may_precede};
 
 use super::memo::Memo;
 use super::mosts::{Mosts, cap_all, level, raise_all};
-use super::setting::{Setting, without};
+use super::setting::Setting;
 use super::start::Start;
 use super::window::{capped, window};
 use convoy_scenario::{MOST_GROUPS, MOST_MULTICASTS, Time};
@@ -88,8 +88,13 @@ impl<'a> Setting<'a> {
             (next_arrival self.now.scenario.now.time start.now.at)) }
     {
         let since = next_arrival(self.time, start.at());
-        let arrivals = self.arrivals_since(tick, q, group, since);
-        without(&arrivals, start.message())
+        let mut arrivals = Messages::new();
+        for z in self.addressed_to(group) {
+            if self.may_arrive(tick, q, group, since, *z) && *z != start.message() {
+                arrivals.push(*z);
+            }
+        }
+        arrivals
     }
 
     /// How the clock of a group may rise by a start until message `q` arrives there by that tick.
@@ -138,10 +143,38 @@ impl<'a> Setting<'a> {
         }
     }
 
+    /// Whether a start may raise one of the clocks of a group as message `q` arrives there, where at most so
+    /// many messages arrive before.
+    fn may_raise(&self, clocks: &[u32], q: usize, start: &Start, many: u32) -> bool
+        requires long { length clocks.now ≡ length self.now.bars.now }
+        requires few { many ≤ MOST_MULTICASTS }
+        ensures { IsFalse result → (k : ℕ) → k < length clocks.now → slice_index self.now.bars.now k ≢ start.now.message
+            → value_for start.now (slice_index self.now.bars.now k) q + many ≤ slice_index clocks.now k }
+    {
+        for k in 0..clocks.len() {
+            let bar = self.bars[k];
+            if bar != start.message() && clocks[k] < start.value_for(bar, q) + many {
+                return true;
+            }
+        }
+        false
+    }
+
     /// Raises the clocks of a group as message `q` arrives there by that tick, one for each of the
-    /// bars, to what they may be by a start.
-    fn raise_clocks(&self, clocks: &mut [u32], q: usize, group: usize, tick: u32, start: &Start)
+    /// bars, to what they may be by a start. So many messages may arrive there before.
+    fn raise_clocks(
+        &self,
+        clocks: &mut [u32],
+        q: usize,
+        group: usize,
+        tick: u32,
+        start: &Start,
+        many: u32,
+    )
         requires group { group < MOST_GROUPS }
+        requires few { many ≤ MOST_MULTICASTS }
+        requires many { many ≡ length (arrivals_since self.now.scenario.now
+            (tables_by self.now.windows.now).times tick q group 0) }
         requires long { length clocks.old ≡ length self.now.bars.now }
         requires small { All (λ clock. clock ≤ u16.MAX + MOST_MULTICASTS) clocks.old }
         ensures small { All (λ clock. clock ≤ u16.MAX + MOST_MULTICASTS) clocks.new }
@@ -153,6 +186,9 @@ impl<'a> Setting<'a> {
         if !may_precede(self.time, q, group, tick, start) {
             return;
         }
+        if !self.may_raise(clocks, q, start, many) {
+            return;
+        }
         let rise = self.rise(q, group, tick, start);
         for k in 0..clocks.len() {
             if self.bars[k] != start.message() {
@@ -162,7 +198,8 @@ impl<'a> Setting<'a> {
         }
     }
 
-    /// The clocks, for each of the bars, by no start or by any.
+    /// The clocks, for each of the bars, by no start or by any. The last starts come first: they raise clocks so high that
+    /// most of the others need not be looked at.
     fn clocks_high(&self, starts: &[Start], q: usize, group: usize, tick: u32) -> Mosts
         requires group { group < MOST_GROUPS }
         ensures small { All (λ clock. clock ≤ u16.MAX + MOST_MULTICASTS) result.items }
@@ -170,9 +207,12 @@ impl<'a> Setting<'a> {
             (tables_by self.now.windows.now).times self.now.sure.now starts.now x q group tick)
             self.now.bars.now result.items }
     {
-        let mut clocks = level(self.bars, self.clock_alone(q, group, tick));
-        for start in starts {
-            self.raise_clocks(clocks.as_mut_slice(), q, group, tick, start);
+        let arrivals = self.arrivals_since(tick, q, group, 0);
+        let many = arrivals.numbers().len() as u32;
+        let mut clocks = level(self.bars, self.window(group, &arrivals, 0));
+        for place in 0..starts.len() {
+            let start = &starts[starts.len() - 1 - place];
+            self.raise_clocks(clocks.as_mut_slice(), q, group, tick, start, many);
         }
         clocks
     }

@@ -8,6 +8,7 @@ use Rattle.convoy_sure.specs.SureLeads.{lead_at}
 use Rattle.convoy_sure.specs.Windows.{tables_by}
 use Rattle.convoy_starts.specs.Starts.{clock_from, value_for, window}
 use Rattle.convoy_starts.specs.Mosts.{may_precede}
+use Rattle.convoy_starts.proofs.LowStarts.{clock_low}
 use Rattle.convoy_starts.proofs.MostLaws.{clock_barred, clock_passing, one_done, one_left}
 use Rattle.convoy_starts.proofs.setting.Setting.raise_clocks.Goals as goal
 use Rattle.convoy_starts.proofs.setting.Setting.raise_clocks.Goals.{then-self-k, else-self-k}
@@ -54,3 +55,9 @@ loop-k-preserved c =
             left = one_left old now new f k is within c.loop-k.invariant.left;
           }
     ]
+
+pub returns-then-not-may_raise-clause-value : goal.returns-then-not-may_raise-clause-value
+returns-then-not-may_raise-clause-value c k within =
+    sym (clock_low c.args.self.now.scenario.now (tables_by c.args.self.now.windows.now).times c.args.self.now.sure.now (get_or c.args.self.now.bars.now k 0) c.args.q c.args.group c.args.tick
+    c.args.start.now c.args.many (get_or c.args.clocks.now k 0) c.requires.many
+    (λ other. c.may_raise.ensures c.if-not-may_raise.true k within other))
