@@ -243,6 +243,17 @@ scenario_of_table key table = do
   links ← links_of_table time table
   Ok (record { time = time; tick = tick; delay = delay; least = least; groups = groups; links = links; messages = messages; target_message = target.message; target_group = target.group })
 
+-- what a table writes beside messages and a target, whatever else stands there: how time goes, the length of a tick, D, the least delay of what goes by no link, the groups, and the links
+abbrev pub setting_of_table : Members → Result WrittenScenario ScenarioFault
+setting_of_table table = do
+  time ← time_of_table table
+  tick ← wish Tick (as_tick time) table
+  delay ← delay_of_table time table
+  least ← wish Least (as_least time) table
+  groups ← need_all Groups as_str table
+  links ← links_of_table time table
+  Ok (record { time = time; tick = tick; delay = delay; least = least; groups = groups; links = links; messages = []; target_message = []; target_group = [] })
+
 -- what is written in a scenario's table: the scenario, and the delays of a schedule and the ranks of its moments where they are given
 pub record Written : Type 0 where
   pub scenario : WrittenScenario

@@ -12,7 +12,9 @@ pub use links::{MOST_WRITTEN_LINKS, links_of_bundle};
 pub use placed::{Placed, ScenarioTable};
 pub use plain::PlainNumber;
 pub use read::{read_table, read_toml, read_toml_asked, scenario_of_written};
-pub use shape::{scenario_of_table, time_of_table, unit_of_table, written_of_table};
+pub use shape::{
+    scenario_of_table, setting_of_table, time_of_table, unit_of_table, written_of_table,
+};
 pub use target::TargetKey;
 pub use times::{bundles_of, draft_of_written, tick_of};
 pub use ways::{Way, ways_without_link};

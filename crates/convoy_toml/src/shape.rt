@@ -6,7 +6,7 @@ ghost use Rattle.toml.specs.Data.{as_integer, as_str, as_array, as_table, get_me
 ghost use Rattle.toml.specs.View.{view, array_view, table_view};
 ghost use Rattle.convoy_draft.specs.Keys.{key_word};
 ghost use Rattle.convoy_scenario.specs.Memory.{IsUnlessMemory};
-ghost use Rattle.convoy_toml.specs.Shape.{all_of, as_duration, as_when, as_tick, as_least, needs_delay, delay_of_table, need, need_all, wish, wish_all, names_in, as_names, as_both, both_of_table, ends_of_table, has_only, need_only, time_of_table, message_of_table, messages_of, link_of_table, links_of, links_of_table, written_target, target_of_table, scenario_of_table, written_of_table, listed, listed_if_there, tables_listed, unit_in, unit_of_table};
+ghost use Rattle.convoy_toml.specs.Shape.{all_of, as_duration, as_when, as_tick, as_least, needs_delay, delay_of_table, need, need_all, wish, wish_all, names_in, as_names, as_both, both_of_table, ends_of_table, has_only, need_only, time_of_table, message_of_table, messages_of, link_of_table, links_of, links_of_table, written_target, target_of_table, scenario_of_table, setting_of_table, written_of_table, listed, listed_if_there, tables_listed, unit_in, unit_of_table};
 
 use super::placed::{Placed, ScenarioTable, in_table};
 use super::target::{TargetKey, first_target};
@@ -564,5 +564,30 @@ pub fn scenario_of_table(
         multicasts,
         target_message: target.message,
         target_group: target.group,
+    })
+}
+
+/// What a table writes beside messages and a target, whatever else stands there: how time goes, the length of a tick, D, the
+/// least delay of what goes by no link, the groups, and the links. A faulty one has the first fault of its shape, with the table
+/// that it is of; and `ScenarioFault::Memory` where memory runs out.
+pub fn setting_of_table(alloc: Global, table: &Table) -> Result<WrittenScenario, Placed>
+    ensures { IsUnlessMemory ScenarioFault.Memory (setting_of_table (table_view table.now)) result }
+{
+    let time = time_of_table(table)?;
+    let tick = tick_of_table(table, time)?;
+    let delay = delay_of_table(table, time)?;
+    let least = least_of_table(table, time)?;
+    let groups = names(alloc, table, Key::Groups)?;
+    let links = links_of_table(alloc, table, time)?;
+    Ok(WrittenScenario {
+        time,
+        tick,
+        delay,
+        least,
+        groups,
+        links,
+        multicasts: Vec::new(alloc),
+        target_message: Name::new(alloc, "")?,
+        target_group: Name::new(alloc, "")?,
     })
 }
