@@ -5,17 +5,17 @@ use Rattle.std.proofs.Math.Nat.{mul-le-mul_left}
 use Rattle.convoy_scenario.specs.declared.sender.Sender.{Sender}
 use Rattle.convoy_scenario.specs.declared.sender.Sender.TheVariants.{Group}
 use Rattle.convoy_scenario.specs.Scenario.{Scenario, GoesTo, message_at}
-use Rattle.convoy_scenario.specs.WellFormed.{IsScenario}
 use Rattle.convoy_packets.specs.declared.packet.Packet.TheVariants.{Multicast}
 use Rattle.convoy_packets.specs.Assignment.{Schedule, AreWithin, delay_of, ranges_of}
 use Rattle.convoy_sim.specs.Times.{arrive, issue, settle, propose_arrive}
 use Rattle.convoy_sim.specs.Delivery.{addressed_to, last_commit, latency_at, latency_of}
 use Rattle.convoy_sim.specs.ProtocolLaws.{arrive_by}
+use Rattle.convoy_sim.specs.Traffic.{IsTraffic}
 use Rattle.convoy_sim.proofs.Membership.{IsIn, in_of_filter, in_greatest, greatest_most}
 use Rattle.convoy_sim.proofs.Addressed.{goes_from_in, goes_of_addressed, in-addressed}
-use Rattle.convoy_ceiling.specs.Ceiling.{CeilingHolds, CeilingHoldsInFinerTicks, CeilingIsUpper, IsFinerTrafficOf, IsOfKind, ceiling_at, ceiling_of, delays_between, longest_by, longest_to_commit, longest_from_arrival, longest_after}
+use Rattle.convoy_ceiling.specs.Ceiling.{CeilingHolds, CeilingHoldsForAnyKinds, CeilingHoldsInFinerTicks, CeilingIsUpper, IsFinerTrafficOf, IsOfKind, ceiling_at, ceiling_of, delays_between, longest_by, longest_to_commit, longest_from_arrival, longest_after}
 use Rattle.convoy_ceiling.proofs.Used.{Used}
-use Rattle.convoy_ceiling.proofs.SameKinds.{goes_too, own_kinds, same_ticks, kind_of, is_traffic}
+use Rattle.convoy_ceiling.proofs.SameKinds.{goes_too, kinds_go, own_kinds, same_ticks, kind_of, is_traffic}
 use Rattle.convoy_ceiling.proofs.WithinRanges.{multicast_within, propose_within}
 
 -- so many times a number, and so many times a sum
@@ -67,7 +67,7 @@ module _ (used : Used) (times : ℕ) (scenario traffic : Scenario) (is : IsFiner
       let whole = times_plus times (longest_to_commit scenario n g) (longest_after scenario g) in
       omega arith
 
-  latency_within : IsScenario scenario → (n m g : ℕ) → IsOfKind (message_at scenario n) (message_at traffic m) → GoesTo traffic m g
+  latency_within : IsTraffic scenario → (n m g : ℕ) → IsOfKind (message_at scenario n) (message_at traffic m) → GoesTo traffic m g
       → latency_at traffic schedule m g ≤ times * ceiling_at scenario n g
   unfolding latency_at ceiling_at
   latency_within well n m g kind goes =
@@ -89,7 +89,12 @@ module _ (used : Used) (times : ℕ) (scenario traffic : Scenario) (is : IsFiner
 
 pub holds_finer : Used → CeilingHoldsInFinerTicks
 holds_finer used times scenario traffic schedule well is within n m g kind goes =
-    latency_within used times scenario traffic is schedule within well n m g kind goes
+    latency_within used times scenario traffic is schedule within (kinds_go scenario well) n m g kind goes
+
+pub holds_for_any : Used → CeilingHoldsForAnyKinds
+holds_for_any used scenario well n g traffic schedule is within m kind goes =
+    let most = latency_within used 1 scenario traffic (same_ticks scenario traffic is) schedule within well n m g kind goes in
+    omega arith
 
 pub holds : CeilingHoldsInFinerTicks → CeilingHolds
 holds finer scenario well n g traffic schedule is within m kind goes =

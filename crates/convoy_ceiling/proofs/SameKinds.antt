@@ -47,14 +47,20 @@ same_ticks scenario traffic is = record {
   same_range (Multicast m g) moves = by_links (Multicast m g)
   same_range (Propose m h g) moves = by_links (Propose m h g)
 
+-- the messages of a scenario go to groups
+pub kinds_go : (scenario : Scenario) → IsScenario scenario → IsTraffic scenario
+kinds_go scenario well m other l =
+    let message = well.messages m other l in
+    record { destinations = message.destinations; ascending = message.ascending; known = message.known }
+
 module _ (times : ℕ) (scenario traffic : Scenario) (is : IsFinerTrafficOf times scenario traffic) where
   pub kind_of : (m g : ℕ) → GoesTo traffic m g → IsOfSomeKind scenario (message_at traffic m)
   kind_of m g goes = is.kinds m no_message (number_of_goes traffic m g goes)
 
-  pub is_traffic : IsScenario scenario → IsTraffic traffic
+  pub is_traffic : IsTraffic scenario → IsTraffic traffic
   is_traffic well m other l =
       let kind = is.kinds m other l in
-      let message = well.messages kind.0 no_message kind.1 in
+      let message = well kind.0 no_message kind.1 in
       record {
         destinations = subst (λ hs. 0 < length hs) (sym kind.2.destinations) message.destinations;
         ascending = subst IsStrictlyIncreasing (sym kind.2.destinations) message.ascending;

@@ -11,6 +11,7 @@ use Rattle.convoy_packets.specs.ScheduleLaws.{is_sent}
 use Rattle.convoy_sim.specs.Times.{greatest}
 use Rattle.convoy_sim.specs.Delivery.{addressed_to, latency_at}
 use Rattle.convoy_sim.specs.Greatest.{IsUpper}
+use Rattle.convoy_sim.specs.Traffic.{IsTraffic}
 
 -- the least and the greatest delay from a sender to a group; what a group sends to itself takes no time
 abbrev pub delays_between : Scenario → Sender → ℕ → ℕ × ℕ
@@ -77,6 +78,10 @@ IsUpperInTraffic scenario n g latency =
     (traffic : Scenario) (schedule : Schedule) → IsTrafficOf scenario traffic → AreWithin (ranges_of traffic) schedule.delays
     → (m : ℕ) → IsOfKind (message_at scenario n) (message_at traffic m) → GoesTo traffic m g
     → latency_at traffic schedule m g ≤ latency
+
+-- In no traffic of kinds of messages, of any number, each of which goes to one or more of the groups, is a latency above the ceiling: of the limits of a scenario none is needed.
+abbrev pub CeilingHoldsForAnyKinds : Type 0
+CeilingHoldsForAnyKinds = (kinds : Scenario) → IsTraffic kinds → (n g : ℕ) → IsUpperInTraffic kinds n g (ceiling_at kinds n g)
 
 -- In no traffic of a scenario's kinds of messages is a latency above the ceiling.
 abbrev pub CeilingHolds : Type 0

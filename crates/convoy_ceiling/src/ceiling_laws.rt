@@ -4,6 +4,7 @@
 ghost use Rattle.convoy_ceiling.specs.Ceiling.{
   CeilingBelowFourDelays,
   CeilingHolds,
+  CeilingHoldsForAnyKinds,
   CeilingHoldsInFinerTicks,
   CeilingIsUpper,
   CeilingWithinFourDelays,
@@ -28,6 +29,17 @@ pub fn ceiling_holds()
 /// number. So it holds for times that are any parts of a tick, as in real time.
 pub fn ceiling_holds_in_finer_ticks()
     ensures { CeilingHoldsInFinerTicks }
+{
+    traffic_delivery_bound();
+    delays_are_within();
+    fixed_order_is_order();
+    unsent_takes_no_time();
+}
+
+/// The same of kinds of messages of any number, each of which goes to one or more of the groups: they need not be those of a
+/// scenario, which has few.
+pub fn ceiling_holds_for_any_kinds()
+    ensures { CeilingHoldsForAnyKinds }
 {
     traffic_delivery_bound();
     delays_are_within();
