@@ -1,0 +1,67 @@
+-- The kinds of a text.
+use Rattle.std.specs.Prelude.{ℕ, nat_le, pos, is_none, if◌then◌else◌, List, [], ◌∷◌, length, slice_index_or, codes, Option, None, Result, Ok, Err}
+use Rattle.std.specs.List.{list_any, slice_get}
+use Rattle.toml.specs.Data.{Members}
+use Rattle.convoy_lines.specs.Results.{◌>>=◌}
+use Rattle.convoy_toml.specs.Reading.{scenario_of_written, table_of_text}
+use Rattle.convoy_toml.specs.Shape.{WrittenMessage, WrittenScenario}
+use Rattle.convoy_toml.specs.Times.{tick_of}
+use Rattle.convoy_toml.specs.declared.written.WrittenTime.TheVariants.{Count}
+use Rattle.convoy_kinds.specs.declared.fault.KindsFault.{KindsFault}
+use Rattle.convoy_kinds.specs.declared.fault.KindsFault.TheVariants.{OverLimit}
+use Rattle.convoy_kinds.specs.declared.fault.KindsLimit.TheVariants as limits
+use Rattle.convoy_kinds.specs.declared.limits.TheConstants.{MOST_KINDS}
+use Rattle.convoy_kinds.specs.Checks.{checks, judge}
+use Rattle.convoy_kinds.specs.Kinds.{Kind, Kinds}
+use Rattle.convoy_kinds.specs.Numbering.{kinds_from, table_names}
+use Rattle.convoy_kinds.specs.Shape.{WrittenKind, WrittenKinds, of_scenario, written_of_table}
+
+-- who sends the message of the setting: a client where some table is one of clients, else the first group
+abbrev pub setting_sender : WrittenKinds → Option (List ℕ)
+setting_sender written = if list_any (λ table. is_none table.senders) written.tables then None else slice_get written.setting.groups 0
+
+-- the message of the setting: it goes to all groups, so that between all of them, and from clients where these send, ranges have to be known
+abbrev pub setting_message : WrittenKinds → WrittenMessage
+setting_message written = record {
+  name = codes "all";
+  sender = setting_sender written;
+  to = written.setting.groups;
+  at = Count (pos 0);
+  until = None;
+  within = None;
+}
+
+-- what the kinds share as a scenario with that message, where a tick has this length
+abbrev pub written_setting : WrittenKinds → Option ℕ → WrittenScenario
+written_setting written tick = record written.setting {
+  tick = tick;
+  messages = setting_message written ∷ [];
+  target_message = codes "all";
+  target_group = slice_index_or written.setting.groups 0 [];
+}
+
+-- the kinds of tables that keep the rules, among groups of these names
+abbrev pub checked_kinds : List (List ℕ) → List WrittenKind → Result (List Kind) KindsFault
+checked_kinds groups tables = do
+  _ ← judge (checks groups (table_names tables) tables)
+  Ok (kinds_from 0 groups tables)
+
+-- the kinds, if they are not too many
+abbrev pub with_few : Kinds → Result Kinds KindsFault
+with_few kinds = if nat_le (length kinds.kinds) MOST_KINDS then Ok kinds else Err (OverLimit limits.Kinds)
+
+-- the kinds of what is written: what they share first, with its times in ticks, then the rules for tables
+abbrev pub kinds_of_written : WrittenKinds → Result Kinds KindsFault
+kinds_of_written written = do
+  tick ← of_scenario (tick_of written.setting)
+  setting ← of_scenario (scenario_of_written (written_setting written tick))
+  kinds ← checked_kinds setting.groups written.tables
+  with_few (record { setting = setting; tables = table_names written.tables; kinds = kinds })
+
+-- what a table gives: its shape first, then what is said of that
+abbrev pub kinds_of_members : Members → Result Kinds KindsFault
+kinds_of_members table = written_of_table table >>= kinds_of_written
+
+-- what a text gives
+abbrev pub kinds_of_text : List ℕ → Result Kinds KindsFault
+kinds_of_text text = of_scenario (table_of_text text) >>= kinds_of_members

@@ -1,0 +1,12 @@
+/// The ceiling of a kind of messages at a group that it goes to.
+#[derive(Clone, Copy, Debug, PartialEq, Eq)]
+pub struct CeilingRow {
+    /// The number of the kind.
+    pub kind: usize,
+    /// The number of the group.
+    pub group: usize,
+    /// The ceiling, in ticks: above it no message of the kind has a latency at the group.
+    pub ceiling: u32,
+    /// The number of the kind beside which it has that ceiling.
+    pub decides: usize,
+}

@@ -1,0 +1,180 @@
+ghost use Rattle.std.specs.Prelude.{◌≡◌, is_none, slice_index_or, [], IfOk};
+ghost use Rattle.std.specs.List.{list_any};
+ghost use Rattle.convoy_draft.specs.declared.fault.ScenarioFault.TheVariants.{Memory};
+ghost use Rattle.convoy_scenario.specs.Memory.{IsUnlessMemory};
+ghost use Rattle.convoy_scenario.specs.WellFormed.{IsScenario};
+ghost use Rattle.convoy_toml.specs.Reading.{scenario_of_written};
+ghost use Rattle.convoy_toml.specs.Times.{tick_of};
+ghost use Rattle.convoy_kinds.specs.Kinds.{IsKinds, IsKindsIfFew};
+ghost use Rattle.convoy_kinds.specs.Numbering.{table_names};
+ghost use Rattle.convoy_kinds.specs.Reading.{checked_kinds, kinds_of_text, kinds_of_written, setting_message, setting_sender, with_few, written_setting};
+ghost use Rattle.convoy_kinds.specs.Shape.{listed, of_scenario};
+
+use super::checks::check;
+use super::fault::{KindsFault, KindsLimit};
+use super::kinds::{Kind, Kinds};
+use super::limits::MOST_KINDS;
+use super::numbers::{kinds_of, table_names};
+use super::shape::written_of_table;
+use super::written::{WrittenKind, WrittenKinds};
+use convoy_scenario::naming::draft_groups;
+use convoy_scenario::{Duration, Name, Scenario, ScenarioFault};
+use convoy_toml::{
+    WrittenMulticast, WrittenScenario, WrittenTime, copy_names, read_table, scenario_of_written,
+    tick_of,
+};
+use std::alloc::{AllocError, Global};
+
+/// Reads a kinds text, which is TOML (docs/FORMATS.md, "Kinds text").
+///
+/// Of a faulty text the first fault is told: of its shape, of its times, of what the kinds share, and then of its tables; where
+/// memory runs out, `ScenarioFault::Memory` is the answer, and says nothing of the text.
+pub fn read_kinds(alloc: Global, text: &[u8]) -> Result<Kinds, KindsFault>
+    ensures value { IsUnlessMemory (KindsFault.Scenario Memory) (kinds_of_text text.now) result }
+    ensures lawful { IfOk result (λ kinds. IsKinds kinds) }
+{
+    let table = read_table(alloc, text)?;
+    let written = written_of_table(alloc, &table)?;
+    kinds_of_written(alloc, written)
+}
+
+/// The kinds of what is written.
+fn kinds_of_written(alloc: Global, written: WrittenKinds) -> Result<Kinds, KindsFault>
+    ensures value { IsUnlessMemory (KindsFault.Scenario Memory) (kinds_of_written written) result }
+    ensures lawful { IfOk result (λ kinds. IsKinds kinds) }
+{
+    let WrittenKinds { setting, tables } = written;
+    let tick = tick_in(alloc, &setting)?;
+    let setting = setting_in(alloc, written_setting(alloc, setting, &tables, tick)?)?;
+    let names = table_names(alloc, &tables)?;
+    let kinds = checked_kinds(alloc, &setting, &names, &tables)?;
+    with_few(setting, names, kinds)
+}
+
+/// The kinds of tables with these names, unless the tables break a rule.
+fn checked_kinds(
+    alloc: Global,
+    setting: &Scenario,
+    names: &[Name],
+    tables: &[WrittenKind],
+) -> Result<Vec<Kind>, KindsFault>
+    requires { names.now ≡ table_names tables.now }
+    ensures value { IsUnlessMemory (KindsFault.Scenario Memory) (checked_kinds setting.now.groups tables.now) (listed result) }
+    ensures formed { IfOk result (λ kinds. IsKindsIfFew (record { setting = setting.now; tables = names.now; kinds = kinds.items })) }
+{
+    let _count = setting.group_count();
+    let groups = draft_groups(alloc, setting)?;
+    check(&groups, names, tables)?;
+    Ok(kinds_of(alloc, &groups, tables)?)
+}
+
+/// The kinds, if they are not too many.
+fn with_few(setting: Scenario, tables: Vec<Name>, kinds: Vec<Kind>) -> Result<Kinds, KindsFault>
+    requires { IsKindsIfFew (record { setting = setting; tables = tables.items; kinds = kinds.items }) }
+    ensures value { result ≡ with_few (record { setting = setting; tables = tables.items; kinds = kinds.items }) }
+    ensures lawful { IfOk result (λ kinds. IsKinds kinds) }
+{
+    if kinds.len() <= MOST_KINDS {
+        Ok(Kinds {
+            setting,
+            tables,
+            kinds,
+        })
+    } else {
+        Err(KindsFault::OverLimit(KindsLimit::Kinds))
+    }
+}
+
+/// What the kinds share as a scenario of one message, where a tick has this length.
+fn written_setting(
+    alloc: Global,
+    setting: WrittenScenario,
+    tables: &[WrittenKind],
+    tick: Option<Duration>,
+) -> Result<WrittenScenario, AllocError>
+    ensures { IfOk result (λ whole. whole
+        ≡ written_setting (record { setting = setting; tables = tables.now }) tick) }
+{
+    let message = setting_message(alloc, &setting, tables)?;
+    let group = first_of(alloc, &setting.groups)?;
+    Ok(WrittenScenario {
+        tick,
+        multicasts: vec![in alloc; message]?,
+        target_message: Name::new(alloc, "all")?,
+        target_group: group,
+        ..setting
+    })
+}
+
+/// The message of the setting, which goes to all groups.
+fn setting_message(
+    alloc: Global,
+    setting: &WrittenScenario,
+    tables: &[WrittenKind],
+) -> Result<WrittenMulticast, AllocError>
+    ensures { IfOk result (λ message. message
+        ≡ setting_message (record { setting = setting.now; tables = tables.now })) }
+{
+    Ok(WrittenMulticast {
+        name: Name::new(alloc, "all")?,
+        sender: setting_sender(setting, tables)?,
+        to: copy_names(alloc, &setting.groups)?,
+        at: WrittenTime::Count(0),
+        until: None,
+        within: None,
+    })
+}
+
+/// Who sends it: a client where some table is one of clients, else the first group.
+fn setting_sender(
+    setting: &WrittenScenario,
+    tables: &[WrittenKind],
+) -> Result<Option<Name>, AllocError>
+    ensures { IfOk result (λ sender. sender
+        ≡ setting_sender (record { setting = setting.now; tables = tables.now })) }
+{
+    if some_are_of_clients(tables) {
+        return Ok(None);
+    }
+    match setting.groups.first() {
+        Some(group) => Ok(Some(group.copy()?)),
+        None => Ok(None),
+    }
+}
+
+/// Whether some table is one of clients.
+fn some_are_of_clients(tables: &[WrittenKind]) -> bool
+    ensures { result ≡ list_any (λ table. is_none table.senders) tables.now }
+{
+    tables.iter().any(|table| table.senders.is_none())
+}
+
+/// The first of the names, or one without a letter where there are none.
+fn first_of(alloc: Global, names: &[Name]) -> Result<Name, AllocError>
+    ensures { IfOk result (λ name. name ≡ slice_index_or names.now 0 []) }
+{
+    match names.first() {
+        Some(name) => name.copy(),
+        None => Name::new(alloc, ""),
+    }
+}
+
+/// The length of a tick, if it has one.
+fn tick_in(alloc: Global, setting: &WrittenScenario) -> Result<Option<Duration>, KindsFault>
+    ensures { IsUnlessMemory (KindsFault.Scenario Memory) (of_scenario (tick_of setting.now)) result }
+{
+    match tick_of(alloc, setting) {
+        Ok(tick) => Ok(tick),
+        Err(fault) => Err(KindsFault::from(fault)),
+    }
+}
+
+/// What the kinds share as a scenario.
+fn setting_in(alloc: Global, setting: WrittenScenario) -> Result<Scenario, KindsFault>
+    ensures { IsUnlessMemory (KindsFault.Scenario Memory) (of_scenario (scenario_of_written setting)) result }
+{
+    match scenario_of_written(alloc, &setting) {
+        Ok(setting) => Ok(setting),
+        Err(placed) => Err(KindsFault::from(ScenarioFault::from(placed))),
+    }
+}
