@@ -17,9 +17,10 @@ use Rattle.convoy_branch.specs.Options.{Settings}
 use Rattle.convoy_survey.specs.declared.finding.Finding.{Finding}
 use Rattle.convoy_survey.specs.declared.finding.Finding.TheVariants.{Greatest, Open, OutOfMemory}
 use Rattle.convoy_survey.specs.Findings.{IsFinding, least_of, most_of}
-use Rattle.convoy_orders.specs.GreatestAt.{IsLate}
+use Rattle.convoy_orders.specs.GreatestAt.{IsLate, IsUpperAt}
 use Rattle.convoy_orders.specs.Relisted.{RelistedDraftsAreRenumbered, RelistedDraftsGiveScenarios, number_in}
 use Rattle.convoy_orders.proofs.SameOrder.{same_order}
+use Rattle.convoy_orders.proofs.Targets.{asked_for}
 use Rattle.convoy_best_order.specs.declared.spread.Spread.{Spread}
 use Rattle.convoy_best_order.specs.declared.target.Target.{Target}
 use Rattle.convoy_best_order.specs.Orders.{IsOrder, names_of}
@@ -105,6 +106,14 @@ module _ (have : ScenariosHaveDrafts) (give : RelistedDraftsGiveScenarios) (renu
   pub reached_in : (least : ℕ) → IsLate (in_order scenario order) target.message number least → IsReachedPast (in_order asked order) least
   reached_in least late =
       subst (λ (s : Scenario). IsReachedPast s least) (sym target_in) (reached_past (in_order scenario order) target.message number least late)
+
+  pub upper_in : (latency : ℕ) → IsUpper (in_order asked order) latency → IsUpperAt (in_order scenario order) target.message number latency
+  upper_in latency upper =
+      (asked_for (in_order scenario order) target.message number latency).0.0 (subst (λ (s : Scenario). IsUpper s latency) target_in upper)
+
+  pub upper_from : (latency : ℕ) → IsUpperAt (in_order scenario order) target.message number latency → IsUpper (in_order asked order) latency
+  upper_from latency upper =
+      subst (λ (s : Scenario). IsUpper s latency) (sym target_in) ((asked_for (in_order scenario order) target.message number latency).0.1 upper)
 
 -- ---- what a spread says
 pub reached_least : (settings : Settings) (scenario : Scenario) (spread : Spread) → IsSpread settings scenario spread → IsReached scenario spread.least

@@ -30,7 +30,7 @@ use Rattle.convoy_best_order.specs.declared.excess.Excess.{Excess}
 use Rattle.convoy_best_order.specs.declared.target.Target.{Target}
 use Rattle.convoy_best_order.specs.Best.{IsReason, IsRow, excess_of_reason, excess_of_row, group_of, groups_of, target_of}
 use Rattle.convoy_best_order.specs.Excesses.{IsAtMost}
-use Rattle.convoy_best_order.specs.OrderLaws.{BestOrderKeeps, IsExceededIn, IsKeptIn, NoOrderIsBetter}
+use Rattle.convoy_best_order.specs.OrderLaws.{BestOrderIsExact, BestOrderKeeps, IsExceededIn, IsKeptIn, NoOrderIsBetter}
 use Rattle.convoy_best_order.specs.Orders.{IsOrder, group_numbers, listed, names_of}
 use Rattle.convoy_best_order.specs.Targets.{MayBeTarget, asked_of}
 use Rattle.convoy_best_order.proofs.Asking.{late_in, reached_in, reached_least, upper_most, well_asked}
@@ -88,7 +88,7 @@ module _ (scenario : Scenario) (order : List ℕ) (is : IsOrder scenario order)
   named k l = get_or-map (group_name_at scenario) order k 0 [] l
 
   -- the group that stands at the place of a group is that group
-  stands : (h : ℕ) → h < length scenario.groups → get_or order (number h) 0 ≡ h
+  pub stands : (h : ℕ) → h < length scenario.groups → get_or order (number h) 0 ≡ h
   stands h l =
       let low = number_low scenario.groups names long here h l in
       let within : number h < length order = omega (arith, low, long, long_order) in
@@ -97,7 +97,7 @@ module _ (scenario : Scenario) (order : List ℕ) (is : IsOrder scenario order)
       sym (same.back_again (get_or order (number h) 0)) ∙ ap back again ∙ same.back_again h
 
   -- a group has the number of the place where it stands
-  stands_at : (k : ℕ) → k < length order → number (get_or order k 0) ≡ k
+  pub stands_at : (k : ℕ) → k < length order → number (get_or order k 0) ≡ k
   stands_at k l =
       let within : k < length names = omega (arith, l, long, long_order) in
       let low = number_low names scenario.groups (sym long) there k within in
@@ -142,20 +142,22 @@ pick_is (reason ∷ reasons) other g i = by_test (group_of reason == g) refl (λ
   by_test false is later (inr rest) = let found = later rest in (found.0, inr found.1)
 
 -- one result is one scenario
-same_made : (made : Result Scenario ScenarioFault) (one other : Scenario) → made ≡ Ok one → made ≡ Ok other → one ≡ other
+pub same_made : (made : Result Scenario ScenarioFault) (one other : Scenario) → made ≡ Ok one → made ≡ Ok other → one ≡ other
 same_made (Ok made) one other is too = cc
 same_made (Err fault) one other is too = absurd cc
 
 module _ (have : ScenariosHaveDrafts) (given : DraftsGiveScenarios) (give : RelistedDraftsGiveScenarios) (renumbered : RelistedDraftsAreRenumbered)
-    (settings : Settings) (scenario : Scenario) (targets : List Target) (well : IsScenario scenario)
-    (may : (target : Target) → Contains targets target → MayBeTarget scenario target) where
-  same_in : (order : List ℕ) → IsOrder scenario order →
+    (scenario : Scenario) (well : IsScenario scenario) where
+  pub same_in : (order : List ℕ) → IsOrder scenario order →
       IsRenumbered (number_in (names_of scenario order) scenario.groups) (number_in scenario.groups (names_of scenario order)) scenario (in_order scenario order)
   same_in order is = renumbered (draft_for scenario) (names_of scenario order) scenario (in_order scenario order) (of_one_draft have give scenario order well is)
 
-  well_in : (order : List ℕ) → IsOrder scenario order → IsScenario (in_order scenario order)
+  pub well_in : (order : List ℕ) → IsOrder scenario order → IsScenario (in_order scenario order)
   well_in order is = given (relisted (names_of scenario order) (draft_for scenario)) (in_order scenario order) (is_listed have give scenario order well is)
 
+module _ (have : ScenariosHaveDrafts) (given : DraftsGiveScenarios) (give : RelistedDraftsGiveScenarios) (renumbered : RelistedDraftsAreRenumbered)
+    (settings : Settings) (scenario : Scenario) (targets : List Target) (well : IsScenario scenario)
+    (may : (target : Target) → Contains targets target → MayBeTarget scenario target) where
   held_up : (groups : List ℕ) (reason : Reason) → IsReason settings scenario targets groups reason →
       IsHeldUp scenario groups reason.target.message (group_of reason) reason.spread.least
   held_up groups reason is =
@@ -166,11 +168,11 @@ module _ (have : ScenariosHaveDrafts) (given : DraftsGiveScenarios) (give : Reli
         renumber = number_in (names_of scenario reason.order.items) scenario.groups;
         back = number_in scenario.groups (names_of scenario reason.order.items);
         listed = in_order scenario reason.order.items;
-        well = well_in reason.order.items is.is;
-        is = same_in reason.order.items is.is;
+        well = well_in have given give renumbered scenario well reason.order.items is.is;
+        is = same_in have given give renumbered scenario well reason.order.items is.is;
         goes = may_be.addressed;
         behind = λ h goes later.
-            behind_among scenario reason.order.items is.is (same_in reason.order.items is.is) is.ahead is.behind groups (group_of reason) h is.split is.among
+            behind_among scenario reason.order.items is.is (same_in have given give renumbered scenario well reason.order.items is.is) is.ahead is.behind groups (group_of reason) h is.split is.among
             (group_known scenario well reason.target.message h goes) later;
         run = late_in have give renumbered scenario reason.order.items reason.target well may_be is.is reason.spread.least reason.spread.least (omega arith)
             (subst (λ (s : Scenario). IsReached s reason.spread.least) instance (reached_least settings is.found.instance reason.spread is.found.found));
@@ -204,8 +206,8 @@ no_better have given give renumbered below settings scenario targets best order 
       let number : ℕ → ℕ = number_in (names_of scenario order) scenario.groups in
       let late = below number (number_in scenario.groups (names_of scenario order)) scenario (in_order scenario order) groups
       (λ g. (chosen g).target.message) (λ g. (chosen g).spread.least) well
-      (well_in have given give renumbered settings scenario targets well may order other_is)
-      (same_in have given give renumbered settings scenario targets well may order other_is)
+      (well_in have given give renumbered scenario well order other_is)
+      (same_in have given give renumbered scenario well order other_is)
       (subst (λ n. 0 < n) (sym (length-map reasons group_of)) is.reasons.some)
       (λ g among.
       let found = pick_is reasons first g (in_of_contains g groups among) in
@@ -233,3 +235,23 @@ best_keeps settings scenario targets best target is of_target =
       upper = upper_most settings told.after.instance row.after told.after.found;
       keeps = all-in (λ (excess : Excess). IsAtMost excess best.most) (excess_of_row row) (map excess_of_row rows) is.most.none_greater (in-map excess_of_row row rows found.1);
     })
+
+-- ---- THE ORDER THAT IS TOLD
+exceeded_less : (scenario : Scenario) (targets : List Target) (order : List ℕ) (least more : Excess) → IsAtMost least more
+    → IsExceededIn scenario targets order more → IsExceededIn scenario targets order least
+exceeded_less scenario targets order least more low is = record {
+  target = is.target;
+  of_target = is.of_target;
+  instance = is.instance;
+  made = is.made;
+  latency = is.latency;
+  reached = is.reached;
+  exceeds = let past = is.exceeds in omega (arith, past, low);
+}
+
+pub best_is_exact : NoOrderIsBetter → BestOrderIsExact
+best_is_exact better settings scenario targets best order well may is other_is =
+    elim is.exact [
+      | inl low ↦ inl (exceeded_less scenario targets order best.most best.least low (better settings scenario targets best order well may is other_is))
+      | inr may_open ↦ inr may_open
+    ]

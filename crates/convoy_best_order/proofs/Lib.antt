@@ -2,6 +2,10 @@ pub mod Measures
 pub mod Relisting
 pub mod Asking
 pub mod Better
+pub mod Behind
+pub mod Kept
+pub mod Dearer
 pub mod Steps
+pub mod Held
 pub mod Told
 pub mod Counting

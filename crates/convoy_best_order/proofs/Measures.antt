@@ -29,7 +29,7 @@ lesser_has P least x new old = by_test (is_less x least) refl where
   by_test true is = new is
   by_test false is = old is
 
-greater_has : (P : Excess → Type 0) (greatest x : Excess) → (is_less greatest x ≡ true → P x) → (is_less greatest x ≡ false → P greatest) → P (greater greatest x)
+pub greater_has : (P : Excess → Type 0) (greatest x : Excess) → (is_less greatest x ≡ true → P x) → (is_less greatest x ≡ false → P greatest) → P (greater greatest x)
 greater_has P greatest x new old = by_test (is_less greatest x) refl where
   by_test : (b : Bool) → is_less greatest x ≡ b → P (cond b x greatest)
   by_test true is = new is

@@ -99,36 +99,6 @@ are_reasons settings scenario targets left reasons some is all = record {
 pub as_many : (left : List ℕ) (reasons : List Reason) → groups_of reasons ≡ left → length reasons ≡ length left
 as_many left reasons is = sym (length-map reasons group_of) ∙ ap length is
 
--- ---- the dearest target
-dearer_has : (P : Target → Spread → Type 0) (dearest : Option Dearest) (target : Target) (spread : Spread) → IfSome dearest (λ d. P d.target d.spread) → P target spread
-    → P (dearer dearest target spread).target (dearer dearest target spread).spread
-dearer_has P None target spread so_far new = new
-dearer_has P (Some dearest) target spread so_far new = by_test (is_less (least_excess dearest.target dearest.spread) (least_excess target spread)) where
-  most : Excess
-  most = greater dearest.most (most_excess target spread)
-
-  one : Dearest
-  one = record { target = target; spread = spread; most = most }
-
-  other : Dearest
-  other = record { target = dearest.target; spread = dearest.spread; most = most }
-
-  by_test : (b : Bool) → P (cond {A = Dearest} b one other).target (cond {A = Dearest} b one other).spread
-  by_test true = new
-  by_test false = so_far
-
-pub dearer_is : (settings : Settings) (scenario : Scenario) (targets : List Target) (order : List ℕ) (g : ℕ) (dearest : Option Dearest) (target : Target) (spread : Spread)
-    → IfSome dearest (IsDearest settings scenario targets order g) → Contains targets target → target.group ≡ g → IsSpreadIn settings scenario order target spread
-    → IsDearest settings scenario targets order g (dearer dearest target spread)
-dearer_is settings scenario targets order g dearest target spread so_far among at found =
-    let all = dearer_has (λ t s. Contains targets t × (t.group ≡ g) × IsSpreadIn settings scenario order t s) dearest target spread
-    (known dearest so_far) (among, at, found) in
-    record { of_target = all.0; at = all.1; found = all.2 } where
-      known : (dearest : Option Dearest) → IfSome dearest (IsDearest settings scenario targets order g) →
-          IfSome dearest (λ d. Contains targets d.target × (d.target.group ≡ g) × IsSpreadIn settings scenario order d.target d.spread)
-      known None is = tt
-      known (Some d) is = (is.of_target, is.at, is.found)
-
 -- one target more, at a group or not
 abbrev pub no_target : Target
 no_target = record { message = 0; group = 0; deadline = None }

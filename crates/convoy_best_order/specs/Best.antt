@@ -1,5 +1,5 @@
 -- The best order of the groups, and why no order is better.
-use Rattle.std.specs.Prelude.{◌≡◌, ℕ, ◌<◌, List, ◌∷◌, ◌++◌, length, map, Contains, All}
+use Rattle.std.specs.Prelude.{◌≡◌, ◌⊎◌, ℕ, ◌<◌, List, ◌∷◌, ◌++◌, length, map, Contains, All}
 use Rattle.convoy_scenario.specs.Scenario.{Scenario}
 use Rattle.convoy_branch.specs.Options.{Settings}
 use Rattle.convoy_best_order.specs.declared.excess.Excess.{Excess}
@@ -7,9 +7,9 @@ use Rattle.convoy_best_order.specs.declared.best.Best.{Best}
 use Rattle.convoy_best_order.specs.declared.best.Reason.{Reason}
 use Rattle.convoy_best_order.specs.declared.best.Row.{Row}
 use Rattle.convoy_best_order.specs.declared.target.Target.{Target}
-use Rattle.convoy_best_order.specs.Excesses.{IsGreatestOf, IsLeastOf}
+use Rattle.convoy_best_order.specs.Excesses.{IsAtMost, IsGreatestOf, IsLeastOf}
 use Rattle.convoy_best_order.specs.Orders.{IsOrder}
-use Rattle.convoy_best_order.specs.Spreads.{IsSpread, IsSpreadIn, least_excess, most_excess}
+use Rattle.convoy_best_order.specs.Spreads.{IsSpread, IsSpreadIn, MayStayOpen, least_excess, most_excess}
 use Rattle.convoy_best_order.specs.Targets.{asked_of}
 
 -- REASONS
@@ -58,10 +58,11 @@ pub record AreRows (settings : Settings) (scenario : Scenario) (targets : List T
   pub all : All (IsRow settings scenario order) rows
 
 -- THE BEST ORDER
--- It is an order of the groups, with a row for each of these targets, of which `most` tells the greatest excess; and there are reasons why no order has a lesser excess than `least`, the least of theirs: so says the law `NoOrderIsBetter`.
+-- It is an order of the groups, with a row for each of these targets, of which `most` tells the greatest excess; and there are reasons why no order has a lesser excess than `least`, the least of theirs: so says the law `NoOrderIsBetter`. The two are one excess, unless some search may stay open: so says the law `BestOrderIsExact`.
 pub record IsBest (settings : Settings) (scenario : Scenario) (targets : List Target) (best : Best) : Type 0 where
   pub order : IsOrder scenario best.order.items
   pub rows : AreRows settings scenario targets best.order.items best.rows.items
   pub most : IsGreatestOf (map excess_of_row best.rows.items) best.most
   pub reasons : AreReasons settings scenario targets best.reasons.items
   pub least : IsLeastOf (map excess_of_reason best.reasons.items) best.least
+  pub exact : IsAtMost best.most best.least ⊎ MayStayOpen settings scenario targets

@@ -7,6 +7,7 @@ use Rattle.convoy_best_order.specs.declared.best.Reason.{Reason}
 use Rattle.convoy_best_order.specs.declared.best.Row.{Row}
 use Rattle.convoy_best_order.specs.declared.target.Target.{Target}
 use Rattle.convoy_best_order.specs.Best.{IsReason, IsRow, group_of}
+use Rattle.convoy_best_order.specs.Choices.{AreKept, IsDear, with_next}
 use Rattle.convoy_best_order.specs.Orders.{IsOrder}
 use Rattle.convoy_best_order.specs.Targets.{MayBeTarget, has_target}
 
@@ -25,11 +26,13 @@ pub record MayBeNext (scenario : Scenario) (targets : List Target) (ahead left :
   pub order : IsOrder scenario (ahead ++ left)
   pub some : All (λ g. IsTrue (has_target targets g)) left
 
--- The reason is that of the group at this place of those that are left.
-pub record IsReasonAt (settings : Settings) (scenario : Scenario) (targets : List Target) (left : List ℕ) (place : ℕ) (reason : Reason) : Type 0 where
+-- The reason is that of the group at this place of those that are left. Where the group is listed next each target at it keeps what it costs, and the reason is dear enough.
+pub record IsReasonAt (settings : Settings) (scenario : Scenario) (targets : List Target) (ahead left : List ℕ) (place : ℕ) (reason : Reason) : Type 0 where
   pub at : slice_get left place ≡ Some (group_of reason)
   pub told : IsReason settings scenario targets left reason
+  pub kept : AreKept scenario (with_next ahead left place) (group_of reason) reason.cost targets
+  pub dear : IsDear settings scenario targets reason
 
 -- what may be answered for that group: its reason, or that memory ran out
-abbrev pub MayBeReason : Settings → Scenario → List Target → List ℕ → ℕ → Result Reason AllocError → Type 0
-MayBeReason settings scenario targets left place answer = IfOk answer (IsReasonAt settings scenario targets left place)
+abbrev pub MayBeReason : Settings → Scenario → List Target → List ℕ → List ℕ → ℕ → Result Reason AllocError → Type 0
+MayBeReason settings scenario targets ahead left place answer = IfOk answer (IsReasonAt settings scenario targets ahead left place)

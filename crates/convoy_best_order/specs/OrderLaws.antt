@@ -1,5 +1,5 @@
 -- What is proved of the best order. Each is the one clause of the function of its name in the crate's module `best_order_laws`.
-use Rattle.std.specs.Prelude.{◌≡◌, ℕ, List, Ok, Contains}
+use Rattle.std.specs.Prelude.{◌≡◌, ◌⊎◌, ℕ, List, ◌++◌, Ok, Contains}
 use Rattle.convoy_scenario.specs.Scenario.{Scenario}
 use Rattle.convoy_scenario.specs.WellFormed.{IsScenario}
 use Rattle.convoy_sim.specs.Greatest.{IsReached, IsUpper}
@@ -10,6 +10,7 @@ use Rattle.convoy_best_order.specs.declared.target.Target.{Target}
 use Rattle.convoy_best_order.specs.Best.{IsBest}
 use Rattle.convoy_best_order.specs.Excesses.{IsAtMost}
 use Rattle.convoy_best_order.specs.Orders.{IsOrder, listed}
+use Rattle.convoy_best_order.specs.Spreads.{MayStayOpen}
 use Rattle.convoy_best_order.specs.Targets.{MayBeTarget, asked_of, limit_of}
 
 -- With the groups in that order some schedule of some of these targets exceeds its limit by so much, or by more.
@@ -44,3 +45,19 @@ BestOrderKeeps =
     (settings : Settings) (scenario : Scenario) (targets : List Target) (best : Best) (target : Target)
     → IsBest settings scenario targets best → Contains targets target
     → IsKeptIn scenario best.order.items best.most target
+
+-- No order has a lesser greatest excess than the most, so that the order that is told is the best, unless some search may stay open.
+abbrev pub BestOrderIsExact : Type 0
+BestOrderIsExact =
+    (settings : Settings) (scenario : Scenario) (targets : List Target) (best : Best) (order : List ℕ) → IsScenario scenario
+    → ((target : Target) → Contains targets target → MayBeTarget scenario target)
+    → IsBest settings scenario targets best → IsOrder scenario order
+    → IsExceededIn scenario targets order best.most ⊎ MayStayOpen settings scenario targets
+
+-- What a target keeps where the groups from some place on are listed in one order, and its own group stands before these, it keeps where they are listed in any other.
+abbrev pub OrderBehindIsFree : Type 0
+OrderBehindIsFree =
+    (scenario : Scenario) (target : Target) (ahead behind others : List ℕ) (most : Excess) → IsScenario scenario → MayBeTarget scenario target
+    → IsOrder scenario (ahead ++ behind) → IsOrder scenario (ahead ++ others) → Contains ahead target.group
+    → IsKeptIn scenario (ahead ++ behind) most target
+    → IsKeptIn scenario (ahead ++ others) most target

@@ -1,5 +1,5 @@
 -- How late a target is with the groups in some order, as `latency` finds it.
-use Rattle.std.specs.Prelude.{◌≡◌, ℕ, List, Some, Ok}
+use Rattle.std.specs.Prelude.{◌≡◌, ℕ, ◌<◌, List, Some, Ok, Contains}
 use Rattle.convoy_scenario.specs.Scenario.{Scenario}
 use Rattle.convoy_branch.specs.Options.{Settings}
 use Rattle.convoy_survey.specs.declared.finding.Finding.{Finding}
@@ -7,7 +7,7 @@ use Rattle.convoy_survey.specs.Findings.{IsFinding, least_of, most_of}
 use Rattle.convoy_best_order.specs.declared.excess.Excess.{Excess}
 use Rattle.convoy_best_order.specs.declared.spread.Spread.{Spread}
 use Rattle.convoy_best_order.specs.declared.target.Target.{Target}
-use Rattle.convoy_best_order.specs.Orders.{listed}
+use Rattle.convoy_best_order.specs.Orders.{IsOrder, listed}
 use Rattle.convoy_best_order.specs.Targets.{asked_of, limit_of}
 
 -- A search with these settings found that the greatest latency of the scenario is from the least to the most.
@@ -22,6 +22,16 @@ pub record IsSpreadIn (settings : Settings) (scenario : Scenario) (order : List 
   pub instance : Scenario
   pub made : listed (asked_of scenario target) order ≡ Ok instance
   pub found : IsSpread settings instance spread
+
+-- For one of these targets, with the groups in some order, a search with these settings may stay open: what it finds at least may be below what it finds at most.
+pub record MayStayOpen (settings : Settings) (scenario : Scenario) (targets : List Target) : Type 0 where
+  pub target : Target
+  pub of_target : Contains targets target
+  pub order : List ℕ
+  pub is : IsOrder scenario order
+  pub spread : Spread
+  pub found : IsSpreadIn settings scenario order target spread
+  pub is_open : spread.least < spread.most
 
 -- by how much the latency of the target exceeds its limit at least, and at most
 abbrev pub least_excess : Target → Spread → Excess

@@ -18,7 +18,7 @@ pub struct Reason {
     /// The groups, by their numbers.
     pub order: Vec<usize>,
     pub spread: Spread,
-    /// The greatest excess of all targets at that group there, at most.
+    /// The greatest excess of all targets at that group there, at most: what it costs to list the group there.
     pub(crate) cost: Excess,
 }
 
@@ -33,6 +33,6 @@ pub struct Best {
     pub reasons: Vec<Reason>,
     /// The greatest excess is at least that in each order.
     pub least: Excess,
-    /// It is at most that in the order that is told.
+    /// It is at most that in the order that is told: the same as the least, unless a search may stay open.
     pub most: Excess,
 }

@@ -1,9 +1,9 @@
 //! The laws of the best order. Each is the one clause of a function that does nothing; a caller that needs the law calls
 //! the function.
 
-ghost use Rattle.convoy_best_order.specs.OrderLaws.{BestOrderKeeps, NoOrderIsBetter};
+ghost use Rattle.convoy_best_order.specs.OrderLaws.{BestOrderIsExact, BestOrderKeeps, NoOrderIsBetter, OrderBehindIsFree};
 
-use convoy_orders::order_laws::no_order_is_below;
+use convoy_orders::order_laws::{fewer_behind_is_no_slower, no_order_is_below};
 use convoy_orders::relisted_laws::{
     relisted_drafts_are_renumbered, relisted_drafts_give_scenarios,
 };
@@ -25,3 +25,23 @@ pub fn no_order_is_better()
 pub fn best_order_keeps()
     ensures { BestOrderKeeps }
 {}
+
+/// No order has a lesser greatest excess than the most that is told of the order that is told: so it is the best one, unless
+/// a search for some target in some order may stay open.
+pub fn best_order_is_exact()
+    ensures { BestOrderIsExact }
+{
+    no_order_is_better();
+}
+
+/// By how much the latency of a target exceeds its limit depends only on which groups stand behind its own, and not on
+/// the order of these: what it keeps in one order of them it keeps in each.
+pub fn order_behind_is_free()
+    ensures { OrderBehindIsFree }
+{
+    scenarios_have_drafts();
+    drafts_give_scenarios();
+    relisted_drafts_give_scenarios();
+    relisted_drafts_are_renumbered();
+    fewer_behind_is_no_slower();
+}

@@ -3,11 +3,13 @@
 ghost use Rattle.std.specs.Prelude.{◌≡◌, ◌+◌, ◌<◌, ◌⊎◌, ◌++◌, ◌∷◌, [], length, slice_index_or, All, IfOk, OnOk};
 ghost use Rattle.std.specs.List.{remove};
 ghost use Rattle.convoy_best_order.specs.Best.{AreReasons, IsBest};
-ghost use Rattle.convoy_best_order.specs.Choices.{IsCheapest, cost_at, costs_of, groups_with, groups_without};
+ghost use Rattle.convoy_best_order.specs.Choices.{AreNoWeaker, IsCheapest, IsHeldBy, cost_at, costs_of, groups_with, groups_without};
 ghost use Rattle.convoy_best_order.specs.Orders.{IsOrder};
+ghost use Rattle.convoy_best_order.specs.Spreads.{MayStayOpen};
 ghost use Rattle.convoy_best_order.specs.Targets.{MayBeTarget};
 
 use super::best::{Best, Reason};
+use super::best_order_laws::order_behind_is_free;
 use super::excess::Excess;
 use super::measuring::{greatest_excess, least_excess};
 use super::reasons::reasons_of;
@@ -22,7 +24,8 @@ use std::sync::Wait;
 use std::thread::Threads;
 
 /// The best order of the groups of a scenario for some targets, and why no order is better: so says the law
-/// [`no_order_is_better`](crate::best_order_laws::no_order_is_better). What counts of each target is by how much its
+/// [`no_order_is_better`](crate::best_order_laws::no_order_is_better). It is the best one unless a search may stay open: so
+/// says [`best_order_is_exact`](crate::best_order_laws::best_order_is_exact). What counts of each target is by how much its
 /// greatest latency exceeds its deadline, or 0 where it has none; the greatest of these is to be the least.
 ///
 /// Groups at which no target is are listed first. Of those that are left, that one is listed next of which the greatest excess
@@ -70,7 +73,11 @@ fn chosen_order<R: Threads + Wait + Sync, W: Watch + Sync>(
     requires lawful { All (MayBeTarget scenario.now) targets.now }
     ensures order { IfOk result (λ chosen. IsOrder scenario.now chosen.0.items) }
     ensures reasons { IfOk result (λ chosen. AreReasons options.now scenario.now targets.now chosen.1.items) }
+    ensures held { IfOk result
+        (λ chosen. All (IsHeldBy scenario.now chosen.1.items chosen.0.items) targets.now
+        ⊎ MayStayOpen options.now scenario.now targets.now) }
 {
+    order_behind_is_free();
     // A scenario is well formed.
     let _count = scenario.group_count();
     let mut ahead = groups_without(alloc, scenario, targets)?;
@@ -172,7 +179,9 @@ fn list_next(place: usize, ahead: &mut Vec<usize>, left: &mut Vec<usize>) -> Res
 fn stronger(reasons: Vec<Reason>, others: Vec<Reason>) -> Vec<Reason>
     requires some { 0 < length reasons.items }
     requires some_others { 0 < length others.items }
-    ensures { (result ≡ reasons) ⊎ (result ≡ others) }
+    ensures one { (result ≡ reasons) ⊎ (result ≡ others) }
+    ensures no_weaker { AreNoWeaker reasons.items result.items }
+    ensures no_weaker_than_others { AreNoWeaker others.items result.items }
 {
     if least_excess(&reasons).is_less(least_excess(&others)) {
         others

@@ -1,7 +1,7 @@
 //! What it costs to list a group next.
 
-ghost use Rattle.std.specs.Prelude.{◌≡◌, ◌<◌, ◌||◌, IsTrue, All, length, slice_get, Some, is_some, IfOk, IfSome};
-ghost use Rattle.convoy_best_order.specs.Choices.{IsDearest, dearer};
+ghost use Rattle.std.specs.Prelude.{◌≡◌, ◌+◌, ◌<◌, ◌||◌, IsTrue, All, length, take, slice_get, Some, is_some, IfOk, IfSome};
+ghost use Rattle.convoy_best_order.specs.Choices.{AreKept, AreKeptBy, IsDearest, dearer};
 ghost use Rattle.convoy_best_order.specs.Orders.{IsOrder};
 ghost use Rattle.convoy_best_order.specs.declared.target.Target.{Target};
 ghost use Rattle.convoy_best_order.specs.Targets.{MayBeTarget, has_target, is_at};
@@ -39,7 +39,9 @@ pub(crate) fn dearest_at<R: Threads + Wait + Sync, W: Watch + Sync>(
     requires lawful { All (MayBeTarget scenario.now) targets.now }
     requires order { IsOrder scenario.now order.now }
     requires some { IsTrue (has_target targets.now group) }
-    ensures { IfOk result (IsDearest options.now scenario.now targets.now order.now group) }
+    ensures dearest { IfOk result (IsDearest options.now scenario.now targets.now order.now group) }
+    ensures kept { IfOk result
+        (λ dearest. AreKept scenario.now order.now group dearest.most targets.now) }
 {
     match dearest_of(rt, alloc, scenario, targets, group, order, options, watch)? {
         Some(dearest) => Ok(dearest),
@@ -63,6 +65,7 @@ fn dearest_of<R: Threads + Wait + Sync, W: Watch + Sync>(
     ensures some { IfOk result (λ dearest. is_some dearest ≡ has_target targets.now group) }
     ensures dearest { IfOk result
         (λ dearest. IfSome dearest (IsDearest options.now scenario.now targets.now order.now group)) }
+    ensures kept { IfOk result (λ dearest. AreKeptBy scenario.now order.now group dearest targets.now) }
 {
     let mut dearest = None;
     for place in 0..targets.len() {
@@ -90,10 +93,13 @@ fn dearest_with<R: Threads + Wait + Sync, W: Watch + Sync>(
     requires order { IsOrder scenario.now order.now }
     requires known { place < length targets.now }
     requires dearest { IfSome dearest (IsDearest options.now scenario.now targets.now order.now group) }
+    requires kept { AreKeptBy scenario.now order.now group dearest (take place targets.now) }
     ensures some { IfOk result (λ next. (target : Target) → slice_get targets.now place ≡ Some target
         → is_some next ≡ (is_some dearest || is_at group target)) }
     ensures dearest { IfOk result
         (λ next. IfSome next (IsDearest options.now scenario.now targets.now order.now group)) }
+    ensures kept { IfOk result
+        (λ next. AreKeptBy scenario.now order.now group next (take (place + 1) targets.now)) }
 {
     let target = targets[place];
     if target.group != group {

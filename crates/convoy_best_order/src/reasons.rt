@@ -3,7 +3,7 @@
 ghost use Rattle.std.specs.Prelude.{◌≡◌, ◌<◌, ◌++◌, length, IsTrue, All, IfOk};
 ghost use Rattle.std.specs.List.{AllZip, range_with_len};
 ghost use Rattle.convoy_best_order.specs.Best.{IsReason, groups_of};
-ghost use Rattle.convoy_best_order.specs.Choices.{with_next};
+ghost use Rattle.convoy_best_order.specs.Choices.{AreCosts, IsDear, costs_of, with_next};
 ghost use Rattle.convoy_best_order.specs.Each.{MayBeNext, MayBeReason};
 ghost use Rattle.convoy_best_order.specs.Orders.{IsOrder};
 ghost use Rattle.convoy_best_order.specs.Targets.{MayBeTarget, has_target};
@@ -38,6 +38,10 @@ pub(crate) fn reasons_of<R: Threads + Wait + Sync, W: Watch + Sync>(
     ensures groups { IfOk result (λ reasons. groups_of reasons.items ≡ left.now) }
     ensures all { IfOk result
         (λ reasons. All (IsReason options.now scenario.now targets.now left.now) reasons.items) }
+    ensures costs { IfOk result
+        (λ reasons. AreCosts scenario.now targets.now ahead.now left.now (costs_of reasons.items)) }
+    ensures dear { IfOk result
+        (λ reasons. All (IsDear options.now scenario.now targets.now) reasons.items) }
 {
     let reasons = each_reason(rt, alloc, scenario, targets, ahead, left, options, watches)?;
     all_values(alloc, reasons)?
@@ -58,12 +62,12 @@ fn each_reason<R: Threads + Wait + Sync, W: Watch + Sync>(
     requires lawful { All (MayBeTarget scenario.now) targets.now }
     requires order { IsOrder scenario.now (ahead.now ++ left.now) }
     requires some { All (λ group. IsTrue (has_target targets.now group)) left.now }
-    ensures { IfOk result (λ reasons. AllZip (MayBeReason options.now scenario.now targets.now left.now)
+    ensures { IfOk result (λ reasons. AllZip (MayBeReason options.now scenario.now targets.now ahead.now left.now)
         (range_with_len 0 (length left.now)) reasons.items) }
 {
     let reason = |place: usize, watch: &W| -> Result<Reason, AllocError>
         requires { MayBeNext scenario.now targets.now ahead.now left.now × (place < length left.now) }
-        ensures { MayBeReason options.entry.now scenario.entry.now targets.entry.now left.entry.now place result }
+        ensures { MayBeReason options.entry.now scenario.entry.now targets.entry.now ahead.entry.now left.entry.now place result }
     {
         reason_for(
             rt, alloc, scenario, targets, ahead, left, place, options, watch,
@@ -87,7 +91,7 @@ fn reason_for<R: Threads + Wait + Sync, W: Watch + Sync>(
 ) -> Result<Reason, AllocError>
     requires next { MayBeNext scenario.now targets.now ahead.now left.now }
     requires known { place < length left.now }
-    ensures { MayBeReason options.now scenario.now targets.now left.now place result }
+    ensures { MayBeReason options.now scenario.now targets.now ahead.now left.now place result }
 {
     let order = with_next(alloc, ahead, left, place)?;
     let group = left[place];

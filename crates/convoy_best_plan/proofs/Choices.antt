@@ -16,6 +16,7 @@ use Rattle.convoy_best_order.specs.Best.{IsBest}
 use Rattle.convoy_best_order.specs.Excesses.{IsAtMost, IsLess, lesser}
 use Rattle.convoy_best_order.specs.OrderLaws.{BestOrderKeeps, NoOrderIsBetter}
 use Rattle.convoy_best_order.specs.Orders.{listed}
+use Rattle.convoy_best_order.specs.Spreads.{MayStayOpen}
 use Rattle.convoy_best_order.specs.Targets.{MayBeTarget, asked_of}
 use Rattle.convoy_best_plan.specs.declared.floor.Floor.{Floor}
 use Rattle.convoy_best_plan.specs.declared.planned.Planned.{Planned}
@@ -65,9 +66,8 @@ module _ (wanted : Wanted) (plan : Plan) (placement : Vec ℕ Global) (scenario 
     is = is;
     scenario = scenario;
     made = made;
-    best = best;
-    found = subst (λ (ts : List Target). IsBest settings scenario ts best) of_plan found;
-    is_open = less;
+    may_be = subst (MayStayOpen settings scenario) of_plan
+        (elim found.exact [ inl low ↦ absurd (omega (arith, less, low)) | inr may_be ↦ may_be ]);
   }
 
   choice_exact : (settings : Settings) → IsOpenByThese settings scenario targets.items best → IsExact settings wanted plan choice

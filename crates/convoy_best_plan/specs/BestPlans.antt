@@ -4,14 +4,13 @@ use Rattle.convoy_scenario.specs.Scenario.{Scenario}
 use Rattle.convoy_plans.specs.Placements.{IsPlacement, scenario_at}
 use Rattle.convoy_plans.specs.Plans.{Plan}
 use Rattle.convoy_branch.specs.Options.{Settings}
-use Rattle.convoy_best_order.specs.declared.best.Best.{Best}
 use Rattle.convoy_best_order.specs.declared.excess.Excess.{Excess}
 use Rattle.convoy_best_order.specs.declared.target.Target.{Target}
 use Rattle.convoy_best_order.specs.declared.wanted.Wanted.{Wanted}
 use Rattle.convoy_best_order.specs.Best.{IsBest}
-use Rattle.convoy_best_order.specs.Excesses.{IsLess}
 use Rattle.convoy_best_order.specs.OrderLaws.{IsExceededIn}
 use Rattle.convoy_best_order.specs.Orders.{IsOrder}
+use Rattle.convoy_best_order.specs.Spreads.{MayStayOpen}
 use Rattle.convoy_best_order.specs.Targets.{MayBeTarget, counted, targets_of}
 use Rattle.convoy_best_plan.specs.declared.floor.Floor.{Floor}
 use Rattle.convoy_best_plan.specs.declared.planned.Planned.{Planned}
@@ -51,22 +50,20 @@ pub record IsChoice (settings : Settings) (wanted : Wanted) (plan : Plan) (plann
 abbrev pub reach_of : Planned → Floor
 reach_of planned = record { least = planned.best.most; ties = planned.total }
 
--- For some placement of the plan it may stay open which order is the best: what may be told of an order there, with these settings, has a least that is below its most.
+-- For some placement of the plan a search with these settings may stay open, for one of the targets that are wanted there with the groups in some order.
 pub record IsOpenSomewhere (settings : Settings) (wanted : Wanted) (plan : Plan) : Type 0 where
   pub placement : List ℕ
   pub is : IsPlacement plan placement
   pub scenario : Scenario
   pub made : scenario_at plan placement ≡ Ok scenario
-  pub best : Best
-  pub found : IsBest settings scenario (targets_by wanted plan scenario) best
-  pub is_open : IsLess best.least best.most
+  pub may_be : MayStayOpen settings scenario (targets_by wanted plan scenario)
 
--- The floor of the choice is what it keeps, and no less, unless for some placement it may stay open which order is the best.
+-- The floor of the choice is what it keeps, and no less, unless for some placement, order and target a search may stay open.
 abbrev pub IsExact : Settings → Wanted → Plan → Planned → Type 0
 IsExact settings wanted plan planned = IsNoHigher (reach_of planned) planned.floor ⊎ IsOpenSomewhere settings wanted plan
 
 -- THE BEST PLAN
--- It is a choice of the plan, and no placement has an order that is below its floor: so says the law `NoChoiceIsBetter`. Where the floor is what the choice keeps no choice is better; it is, unless for some placement it may stay open which order is the best.
+-- It is a choice of the plan, and no placement has an order that is below its floor: so says the law `NoChoiceIsBetter`. Where the floor is what the choice keeps no choice is better; it is, unless for some placement, order and target a search may stay open.
 pub record IsBestPlan (settings : Settings) (wanted : Wanted) (plan : Plan) (planned : Planned) : Type 0 where
   pub choice : IsChoice settings wanted plan planned
   pub floor : IsNoHigher planned.floor (reach_of planned)

@@ -17,7 +17,7 @@ use Rattle.convoy_best_plan.specs.Floors.{IsNoHigher, excess_at, is_lower, lower
 use Rattle.convoy_best_plan.specs.Totals.{total_of}
 
 -- THE CHOICE SO FAR
--- It is a choice, found with some settings. Its floor is no higher than what it keeps; and it is no lower, unless for some placement it may stay open, with these settings, which order is the best.
+-- It is a choice, found with some settings. Its floor is no higher than what it keeps; and it is no lower, unless for some placement, order and target a search with these settings may stay open.
 pub record IsFound (settings : Settings) (wanted : Wanted) (plan : Plan) (planned : Planned) : Type 0 where
   pub used : Settings
   pub choice : IsChoice used wanted plan planned

@@ -14,4 +14,5 @@ loop-place-preserved g c =
           ∙ ap (λ (b : Bool). b || is_at c.args.group target) c.loop-place.invariant.some
           ∙ sym (list_any_more (is_at c.args.group) c.args.targets.now c.loop-place.place no_target c.loop-place-test.true);
       dearest = c.in_ok-dearest.ensures.dearest;
+      kept = c.in_ok-dearest.ensures.kept;
     }

@@ -4,7 +4,8 @@ use Rattle.std.proofs.lemmas.List.Elements.{Contains-get_or}
 use Rattle.std.proofs.lemmas.Option.{get_or_from_slice_get}
 use Rattle.convoy_best_order.specs.declared.target.Target.{Target}
 use Rattle.convoy_best_order.specs.Targets.{is_at}
-use Rattle.convoy_best_order.proofs.Steps.{dearer_is}
+use Rattle.convoy_best_order.proofs.Dearer.{dearer_is, dearer_kept, still_kept}
+use Rattle.convoy_best_order.proofs.Kept.{found_kept}
 use Rattle.convoy_best_order.proofs.costs.dearest_with.Goals as goal
 
 pub returns-clause-some : goal.returns-clause-some
@@ -17,4 +18,16 @@ pub returns-clause-dearest : goal.returns-clause-dearest
 returns-clause-dearest g c =
     rw c.dearer.ensures
     (dearer_is c.args.options.now c.args.scenario.now c.args.targets.now c.args.order.now c.args.group c.args.dearest _ c.in_ok-spread.spread
-    c.requires.dearest (Contains-get_or c.args.targets.now c.args.place _ c.requires.known) c.if-target-group.false c.in_ok-spread.ensures)
+    c.requires.order c.requires.dearest (Contains-get_or c.args.targets.now c.args.place _ c.requires.known) c.if-target-group.false c.in_ok-spread.ensures)
+
+pub returns-clause-kept : goal.returns-clause-kept
+returns-clause-kept g c =
+    rw c.dearer.ensures
+    (dearer_kept c.args.scenario.now c.args.order.now c.args.group c.args.targets.now c.args.place _ c.requires.known c.args.dearest c.in_ok-spread.spread
+    c.requires.kept
+    (found_kept c.args.options.now c.args.scenario.now c.args.order.now _ c.in_ok-spread.spread c.in_ok-spread.ensures))
+
+pub returns-then-target-group-clause-kept : goal.returns-then-target-group-clause-kept
+returns-then-target-group-clause-kept g c =
+    still_kept c.args.scenario.now c.args.order.now c.args.group c.args.targets.now c.args.place _ c.requires.known c.args.dearest c.if-target-group.true
+    c.requires.kept

@@ -11,5 +11,5 @@ make_rows-requires-clause-takes g c = λ κs outlive place watch small.
 
 pub returns : goal.returns
 returns g c =
-    all_zip_then (IsMade _) (MayBeReason c.args.options.now c.args.scenario.now c.args.targets.now c.args.left.now) (range_with_len 0 (length c.args.left.now))
+    all_zip_then (IsMade _) (MayBeReason c.args.options.now c.args.scenario.now c.args.targets.now c.args.ahead.now c.args.left.now) (range_with_len 0 (length c.args.left.now))
     c.in_ok-reasons.reasons.items (λ place reason made. made.answered) c.in_ok-reasons.ensures
