@@ -238,6 +238,7 @@ fn hint_for_fault<R, W>(alloc: Global, run: &Finished<'_, R, W>, fault: &Fault) 
         Fault::Ranges(cause) => hint_for_table(alloc, *cause),
         Fault::Scenario(_)
         | Fault::Plan(_)
+        | Fault::Kinds(_)
         | Fault::Schedule(_)
         | Fault::Order(_)
         | Fault::Reading(ReadFault::TooManyReads | ReadFault::Memory)

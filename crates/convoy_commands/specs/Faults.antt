@@ -14,6 +14,11 @@ use Rattle.convoy_plans.specs.declared.fault.PlanFault.TheVariants as plans
 use Rattle.convoy_plans.specs.declared.fault.PlanLimit.{PlanLimit}
 use Rattle.convoy_plans.specs.declared.fault.PlanLimit.TheVariants as plan_limits
 use Rattle.convoy_plans.specs.Shape.{plan_word}
+use Rattle.convoy_kinds.specs.declared.fault.KindsFault.{KindsFault}
+use Rattle.convoy_kinds.specs.declared.fault.KindsFault.TheVariants as kinds
+use Rattle.convoy_kinds.specs.declared.fault.KindsLimit.{KindsLimit}
+use Rattle.convoy_kinds.specs.declared.fault.KindsLimit.TheVariants as kinds_limits
+use Rattle.convoy_kinds.specs.Shape.{kinds_word}
 use Rattle.convoy_ranges.specs.declared.fault.Cause.{Cause}
 use Rattle.convoy_ranges.specs.declared.fault.Cause.TheVariants as lines
 use Rattle.convoy_ranges.specs.declared.fault.RangesFault.{RangesFault}
@@ -22,7 +27,7 @@ use Rattle.convoy_commands.specs.declared.fault.FaultEnding.{FaultEnding}
 use Rattle.convoy_commands.specs.declared.fault.FaultEnding.TheVariants as endings
 use Rattle.convoy_commands.specs.declared.fault.OrderFault.TheVariants as orders
 use Rattle.convoy_commands.specs.declared.fault.Fault.{Fault}
-use Rattle.convoy_commands.specs.declared.fault.Fault.TheVariants.{Scenario, Schedule, Order, Reading, Write, TooManyJobs, Sweep, Ranges, Plan, Memory}
+use Rattle.convoy_commands.specs.declared.fault.Fault.TheVariants.{Scenario, Schedule, Order, Reading, Write, TooManyJobs, Sweep, Ranges, Plan, Kinds, Memory}
 use Rattle.convoy_commands.specs.declared.fault.SweepCause.{SweepCause}
 use Rattle.convoy_commands.specs.declared.fault.SweepCause.TheVariants as sweeps
 
@@ -113,6 +118,20 @@ row_of_plan plans.NoSites = (48, codes "group without sites")
 row_of_plan plans.NoPlace = (49, codes "message without from")
 row_of_plan plans.NoPlacement = (50, codes "no placement")
 
+-- the word of a limit of kinds
+abbrev pub kinds_limit_word : KindsLimit → List ℕ
+kinds_limit_word kinds_limits.Tables = codes "tables"
+kinds_limit_word kinds_limits.Sizes = codes "to_any"
+kinds_limit_word kinds_limits.Kinds = codes "kinds"
+
+-- the number and the text of why a text is that of no kinds of messages: what scenarios have too has the number that it has there
+abbrev pub row_of_kinds : KindsFault → ℕ × List ℕ
+row_of_kinds (kinds.Scenario cause) = row_of_scenario cause
+row_of_kinds (kinds.Shape key) = (2, codes "shape of " ++ kinds_word key)
+row_of_kinds (kinds.OverLimit limit) = (3, codes "over limit " ++ kinds_limit_word limit)
+row_of_kinds kinds.NotOneTo = (51, codes "not one of to and to_any")
+row_of_kinds kinds.DoubleSender = (52, codes "double sender")
+
 -- a fault's number and its text
 abbrev pub row_of : Fault → ℕ × List ℕ
 row_of (Scenario cause) = row_of_scenario cause
@@ -130,6 +149,7 @@ row_of (Reading reading.TooManyReads) = (44, codes "too many reads")
 row_of (Sweep cause) = row_of_sweep cause
 row_of (Ranges cause) = row_of_ranges cause
 row_of (Plan cause) = row_of_plan cause
+row_of (Kinds cause) = row_of_kinds cause
 row_of (Reading reading.Memory) = memory_row
 row_of Memory = memory_row
 
@@ -166,6 +186,11 @@ told_of_ranges cause = Ranges cause
 abbrev pub told_of_plan : PlanFault → Fault
 told_of_plan (plans.Scenario cause) = told_of cause
 told_of_plan cause = Plan cause
+
+-- why a text is that of no kinds of messages, as a command tells it
+abbrev pub told_of_kinds : KindsFault → Fault
+told_of_kinds (kinds.Scenario cause) = told_of cause
+told_of_kinds cause = Kinds cause
 
 -- a fault of a schedule that was given as a list, as a command tells it
 abbrev pub told_of_list : ListFault → Fault

@@ -10,6 +10,7 @@ pub use Rattle.convoy_times.specs.Measures
 pub use Rattle.convoy_toml.specs.Shape
 pub use Rattle.convoy_ranges.specs.Answers as RangeAnswers
 pub use Rattle.convoy_plans.specs.Shape as PlanShape
+pub use Rattle.convoy_kinds.specs.Shape as KindsShape
 pub use Rattle.convoy_scenario.specs.Memory
 pub use Rattle.convoy_streams.specs.Devices
 pub use Rattle.convoy_streams.specs.Reads

@@ -1,6 +1,7 @@
 ghost use Rattle.std.specs.Prelude.{◌≡◌, ◌≤◌, ◌++◌, length, OnOk, OnErr, IfOk, string_bytes};
-ghost use Rattle.convoy_commands.specs.Faults.{IsShortEnding, ending_text, fault_line_of, limit_word, plan_limit_word, row_of, row_of_line, row_of_plan, row_of_ranges, row_of_scenario, sweep_word, told_of_order};
+ghost use Rattle.convoy_commands.specs.Faults.{IsShortEnding, ending_text, fault_line_of, kinds_limit_word, limit_word, plan_limit_word, row_of, row_of_kinds, row_of_line, row_of_plan, row_of_ranges, row_of_scenario, sweep_word, told_of_order};
 
+use convoy_kinds::{KindsFault, KindsLimit};
 use convoy_packets::ListFault;
 use convoy_plans::{PlanFault, PlanLimit};
 use convoy_ranges::{Cause, RangesFault};
@@ -44,6 +45,9 @@ pub enum Fault {
     /// The text is that of no plan, or the plan has no placement.
     #[error(transparent)]
     Plan(PlanFault),
+    /// The text is that of no kinds of messages.
+    #[error(transparent)]
+    Kinds(KindsFault),
     /// Memory ran out, which says nothing of the input.
     #[error("out of memory")]
     Memory,
@@ -172,6 +176,20 @@ impl From<PlanFault> for Fault {
     }
 }
 
+impl From<KindsFault> for Fault {
+    ghost use Rattle.std.specs.Prelude.{◌≡◌};
+    ghost use Rattle.convoy_commands.specs.Faults.{told_of_kinds};
+
+    ghost from_gives = { λ cause fault. fault ≡ told_of_kinds cause };
+
+    fn from(cause: KindsFault) -> Self {
+        match cause {
+            KindsFault::Scenario(cause) => Fault::from(cause),
+            cause => Fault::Kinds(cause),
+        }
+    }
+}
+
 impl From<ListFault> for Fault {
     ghost use Rattle.std.specs.Prelude.{◌≡◌};
     ghost use Rattle.convoy_commands.specs.Faults.{told_of_list};
@@ -259,6 +277,7 @@ pub fn fault_row(fault: &Fault) -> (u8, &'static str, FaultEnding)
         Fault::Sweep(cause) => (45, "no sweep ", FaultEnding::Word(word_of_sweep(*cause))),
         Fault::Ranges(cause) => ranges_row(*cause),
         Fault::Plan(cause) => plan_row(*cause),
+        Fault::Kinds(cause) => kinds_row(*cause),
         Fault::Memory | Fault::Schedule(ListFault::Memory) | Fault::Reading(ReadFault::Memory) => (
             11,
             "out of memory",
@@ -353,6 +372,36 @@ fn word_of_plan_limit(limit: PlanLimit) -> &'static str
     match limit {
         PlanLimit::Sites => "sites",
         PlanLimit::Placements => "placements",
+    }
+}
+
+/// The same of kinds of messages.
+fn kinds_row(fault: KindsFault) -> (u8, &'static str, FaultEnding)
+    ensures number { result.0 ≡ (row_of_kinds fault).0 }
+    ensures text { result.1.now ++ ending_text result.2 ≡ (row_of_kinds fault).1 }
+    ensures short { (length result.1.now ≤ 64) × IsShortEnding result.2 }
+{
+    match fault {
+        KindsFault::Scenario(cause) => scenario_row(cause),
+        KindsFault::Shape(key) => (2, "shape of ", FaultEnding::Word(key.word())),
+        KindsFault::OverLimit(limit) => (
+            3,
+            "over limit ",
+            FaultEnding::Word(word_of_kinds_limit(limit)),
+        ),
+        KindsFault::NotOneTo => (51, "not one of to and to_any", NOTHING),
+        KindsFault::DoubleSender => (52, "double sender", NOTHING),
+    }
+}
+
+fn word_of_kinds_limit(limit: KindsLimit) -> &'static str
+    ensures word { result.now ≡ kinds_limit_word limit }
+    ensures short { length result.now ≤ 64 }
+{
+    match limit {
+        KindsLimit::Tables => "tables",
+        KindsLimit::Sizes => "to_any",
+        KindsLimit::Kinds => "kinds",
     }
 }
 
