@@ -12,6 +12,7 @@ use Rattle.std.proofs.lemmas.List.Sums.{AllPass-from_list_all}
 use Rattle.std.proofs.lemmas.Slice.Eq.{bytes_eq-Decides}
 use Rattle.std.proofs.lemmas.Bool.Decides.{nat_tests}
 use Rattle.convoy_draft.specs.Checks.{is_among, is_count, is_within, ticks}
+use Rattle.convoy_draft.specs.declared.duration.TimeUnit.{TimeUnit}
 use Rattle.convoy_draft.specs.Names.{is_name}
 use Rattle.convoy_scenario.specs.declared.sender.Sender.{Sender}
 use Rattle.convoy_scenario.specs.declared.sender.Sender.TheVariants.{Group}
@@ -24,7 +25,7 @@ use Rattle.convoy_scenario.proofs.PlaceLemmas.{name_at_place, place_within}
 use Rattle.convoy_sim.proofs.Membership.{IsIn, in_append_cases, in_of_filter, in_of_flat_map, in_of_map}
 use Rattle.convoy_kinds.specs.declared.fault.KindsFault.{KindsFault}
 use Rattle.convoy_kinds.specs.Checks.{KindsCheck, are_known, are_sizes, are_some, checks, judge, knows}
-use Rattle.convoy_kinds.specs.Kinds.{IsKind, IsKindsIfFew, Kind}
+use Rattle.convoy_kinds.specs.Kinds.{IsKind, IsKindsIfCounted, Kind}
 use Rattle.convoy_kinds.specs.Numbering.{is_in_set, kinds_by, kinds_from, senders_in, set_of, sets_in, sets_of_size, table_names}
 use Rattle.convoy_kinds.specs.Shape.{WrittenKind}
 
@@ -146,8 +147,8 @@ kinds_of_all count t groups (table ∷ tables) most few keep kind i =
     ]
 
 pub formed : (setting : Scenario) (tables : List WrittenKind) → IsScenario setting → judge (checks setting.groups (table_names tables) tables) ≡ Ok tt
-    → IsKindsIfFew (record { setting = setting; tables = table_names tables; kinds = kinds_from 0 setting.groups tables })
-formed setting tables well kept few =
+    → (unit : Option TimeUnit) → IsKindsIfCounted (record { setting = setting; unit = unit; tables = table_names tables; kinds = kinds_from 0 setting.groups tables })
+formed setting tables well kept unit some few =
     let rules = all_hold (checks setting.groups (table_names tables) tables) kept in
     let count = and_parts (nat_le 1 (length tables)) _ rules.0 in
     let same = length-map tables (λ (table : WrittenKind). table.name) in
@@ -159,6 +160,7 @@ formed setting tables well kept few =
       tables_high = omega arith;
       names = AllPass-from_list_all is_name (table_names tables) rules.1.1.0;
       names_differ = groups_distinct (table_names tables) rules.1.1.1.0;
+      kinds_low = some;
       kinds_high = few;
       known = all_from_in _ _
           (kinds_of_all (length (table_names tables)) 0 setting.groups tables (omega arith) well.groups_high

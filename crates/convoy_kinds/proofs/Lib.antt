@@ -6,3 +6,4 @@ pub mod FirstPassing
 pub mod KeyLemmas
 pub mod Loops
 pub mod Formed
+mod Worked

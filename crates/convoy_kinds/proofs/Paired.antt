@@ -11,8 +11,8 @@ use Rattle.convoy_ceiling.specs.Ceiling.{CeilingHoldsForAnyKinds, ceiling_at, ce
 use Rattle.convoy_ceiling.proofs.SameKinds.{goes_too}
 use Rattle.convoy_kinds.specs.Kinds.{Kinds, all_kinds, kind_at, kind_name, named}
 use Rattle.convoy_kinds.specs.Pairs.{pair_of, second_name}
-use Rattle.convoy_kinds.specs.Ceilings.{ceiling_of_kind, decider_at, kinds_to}
-use Rattle.convoy_kinds.specs.KindLaws.{CeilingsAreDecided, IsDecidedBy, KindsMayBeAskedInPairs}
+use Rattle.convoy_kinds.specs.Ceilings.{ceiling_of_kind, rival_at, kinds_to}
+use Rattle.convoy_kinds.specs.KindLaws.{RivalsDecide, IsDecidedBy, KindsMayBeAskedInPairs}
 use Rattle.convoy_kinds.proofs.AllKinds.{are_traffic, kind_goes, message_is}
 
 -- the greatest of what one number gives that passes, and of what two give that do
@@ -82,10 +82,10 @@ module _ (kinds : Kinds) where
   unfolding ceiling_of ceiling_at
   beside k l g goes comes = ap₂ ◌+◌ (commit_pair k l g) (after_pair k l g goes comes)
 
-  -- the kind that decides goes to the group, and no other takes longer there
+  -- the rival goes to the group, and no other kind takes longer there
   decides : (k g : ℕ) → GoesTo (all_kinds kinds) k g
-      → IsIn (decider_at kinds g) (kinds_to kinds g) × (longest_from_arrival (all_kinds kinds) g (decider_at kinds g) ≡ longest_after (all_kinds kinds) g)
-  unfolding decider_at
+      → IsIn (rival_at kinds g) (kinds_to kinds g) × (longest_from_arrival (all_kinds kinds) g (rival_at kinds g) ≡ longest_after (all_kinds kinds) g)
+  unfolding rival_at
   decides k g goes =
       let f : ℕ → ℕ = longest_from_arrival (all_kinds kinds) g in
       let p : ℕ → Bool = λ l. f l == longest_after (all_kinds kinds) g in
@@ -96,11 +96,11 @@ module _ (kinds : Kinds) where
       subst (λ (l : ℕ). IsIn l (kinds_to kinds g) × (f l ≡ longest_after (all_kinds kinds) g)) here (is.0, eqb-true _ _ is.1)
 
   -- beside it a kind has the ceiling that it has among all of them
-  beside_decider : (k g : ℕ) → GoesTo (all_kinds kinds) k g → ceiling_of (pair_of kinds k (decider_at kinds g) g) ≡ ceiling_at (all_kinds kinds) k g
+  beside_rival : (k g : ℕ) → GoesTo (all_kinds kinds) k g → ceiling_of (pair_of kinds k (rival_at kinds g) g) ≡ ceiling_at (all_kinds kinds) k g
   unfolding ceiling_at
-  beside_decider k g goes =
+  beside_rival k g goes =
       let d = decides k g goes in
-      let is = beside k (decider_at kinds g) g goes (goes_of_addressed (all_kinds kinds) _ g d.0) in
+      let is = beside k (rival_at kinds g) g goes (goes_of_addressed (all_kinds kinds) _ g d.0) in
       let own = in_greatest (longest_from_arrival (all_kinds kinds) g) k (kinds_to kinds g) (in-addressed (all_kinds kinds) k g goes) in
       is ∙ ap (λ n. longest_to_commit (all_kinds kinds) k g + n) (let e = d.1 in omega arith)
 
@@ -111,8 +111,8 @@ module _ (kinds : Kinds) where
       let f : ℕ → ℕ = longest_from_arrival (all_kinds kinds) g in
       let own = in_greatest f k (kinds_to kinds g) (in-addressed (all_kinds kinds) k g goes) in
       let d = decides k g goes in
-      let is = beside_decider k g goes in
-      let low = in_greatest (λ l. ceiling_of (pair_of kinds k l g)) (decider_at kinds g) (kinds_to kinds g) d.0 in
+      let is = beside_rival k g goes in
+      let low = in_greatest (λ l. ceiling_of (pair_of kinds k l g)) (rival_at kinds g) (kinds_to kinds g) d.0 in
       let high = greatest_most (λ l. ceiling_of (pair_of kinds k l g)) (longest_to_commit (all_kinds kinds) k g + longest_after (all_kinds kinds) g) (kinds_to kinds g)
       (λ l i.
       let here = beside k l g goes (goes_of_addressed (all_kinds kinds) l g i) in
@@ -120,13 +120,13 @@ module _ (kinds : Kinds) where
       omega arith) in
       omega arith
 
-  pub decided : (k g : ℕ) → GoesTo (all_kinds kinds) k g → IsDecidedBy kinds k (decider_at kinds g) g
+  pub decided : (k g : ℕ) → GoesTo (all_kinds kinds) k g → IsDecidedBy kinds k (rival_at kinds g) g
   decided k g goes = record {
     goes = goes_of_addressed (all_kinds kinds) _ g (decides k g goes).0;
-    ceiling = beside_decider k g goes ∙ sym (among_all k g goes);
+    ceiling = beside_rival k g goes ∙ sym (among_all k g goes);
   }
 
-pub all_decided : CeilingsAreDecided
+pub all_decided : RivalsDecide
 all_decided = decided
 
 pub in_pairs : CeilingHoldsForAnyKinds → KindsMayBeAskedInPairs

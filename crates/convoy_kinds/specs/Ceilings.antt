@@ -18,9 +18,9 @@ kinds_to kinds g = addressed_to (all_kinds kinds) g
 unfoldable pub ceiling_of_kind : Kinds → ℕ → ℕ → ℕ
 ceiling_of_kind kinds k g = greatest (map (λ l. ceiling_of (pair_of kinds k l g)) (kinds_to kinds g))
 
--- the kind that decides at group g: the first of those that go there whose messages may be committed longest after their arrival
-unfoldable pub decider_at : Kinds → ℕ → ℕ
-decider_at kinds g =
+-- the rival at group g: the first kind, of those that go there, whose messages may be committed longest after their arrival
+unfoldable pub rival_at : Kinds → ℕ → ℕ
+rival_at kinds g =
     unwrap_or (find (λ l. longest_from_arrival (all_kinds kinds) g l == longest_after (all_kinds kinds) g) (kinds_to kinds g)) 0
 
 -- the kind at each group that it goes to
@@ -40,14 +40,16 @@ pub record IsKindTarget (kinds : Kinds) (target : ℕ × ℕ) : Type 0 where
 abbrev pub row_target : CeilingRow → ℕ × ℕ
 row_target row = (row.kind, row.group)
 
--- The row tells the ceiling of its kind at its group, above which no message of the kind has a latency there in traffic of any of the kinds, and the kind beside which it has that ceiling.
+-- The row tells the ceiling of its kind at its group, above which no message of the kind has a latency there in traffic of any of the kinds, and the rival beside which it has that ceiling.
 pub record IsCeilingRow (kinds : Kinds) (row : CeilingRow) : Type 0 where
+  pub kind : row.kind < length kinds.kinds
   pub goes : GoesTo (all_kinds kinds) row.kind row.group
   pub ceiling : row.ceiling ≡ ceiling_of_kind kinds row.kind row.group
   pub safe : IsUpperInTraffic (all_kinds kinds) row.kind row.group row.ceiling
-  pub decides : row.decides ≡ decider_at kinds row.group
-  pub known : GoesTo (all_kinds kinds) row.decides row.group
-  pub beside : ceiling_of (pair_of kinds row.kind row.decides row.group) ≡ row.ceiling
+  pub rival : row.rival ≡ rival_at kinds row.group
+  pub known : row.rival < length kinds.kinds
+  pub comes : GoesTo (all_kinds kinds) row.rival row.group
+  pub beside : ceiling_of (pair_of kinds row.kind row.rival row.group) ≡ row.ceiling
 
 -- there is a row for each kind at each group that it goes to, in their order
 pub record AreCeilingRows (kinds : Kinds) (rows : List CeilingRow) : Type 0 where
@@ -59,9 +61,9 @@ pub record TellsCeiling (kinds : Kinds) (target : ℕ × ℕ) (row : CeilingRow)
   pub of_target : row_target row ≡ target
   pub told : IsCeilingRow kinds row
 
--- the kind that decides at the group is told, and how long after its arrival a message of that may be committed there
+-- the rival at the group is told, and how long after its arrival a message of that kind may be committed there
 pub record IsSlowest (kinds : Kinds) (g : ℕ) (slowest : Slowest) : Type 0 where
-  pub kind : slowest.kind ≡ decider_at kinds g
+  pub kind : slowest.kind ≡ rival_at kinds g
   pub after : slowest.after ≡ longest_after (all_kinds kinds) g
   pub fits : slowest.after ≤ 131070
 

@@ -5,19 +5,19 @@ use Rattle.convoy_scenario.specs.WellFormed.{IsScenario}
 use Rattle.convoy_ceiling.specs.Ceiling.{IsTrafficOf, IsUpperInTraffic, ceiling_of}
 use Rattle.convoy_kinds.specs.Kinds.{IsKinds, Kinds, all_kinds}
 use Rattle.convoy_kinds.specs.Pairs.{pair_of}
-use Rattle.convoy_kinds.specs.Ceilings.{ceiling_of_kind, decider_at}
+use Rattle.convoy_kinds.specs.Ceilings.{ceiling_of_kind, rival_at}
 
 -- THE HEADLINE. Kinds may be asked about one pair at a time: in no traffic of the kinds, whichever of them it has, does a message of kind k have a latency at group g above the greatest ceiling of kind k there beside one other kind.
 abbrev pub KindsMayBeAskedInPairs : Type 0
 KindsMayBeAskedInPairs = (kinds : Kinds) → IsKinds kinds → (k g : ℕ) → IsUpperInTraffic (all_kinds kinds) k g (ceiling_of_kind kinds k g)
 
--- A kind has its ceiling at a group beside the kind that decides there, which goes there as well.
+-- A kind has its ceiling at a group beside the rival there, which goes there as well.
 pub record IsDecidedBy (kinds : Kinds) (k l g : ℕ) : Type 0 where
   pub goes : GoesTo (all_kinds kinds) l g
   pub ceiling : ceiling_of (pair_of kinds k l g) ≡ ceiling_of_kind kinds k g
 
-abbrev pub CeilingsAreDecided : Type 0
-CeilingsAreDecided = (kinds : Kinds) (k g : ℕ) → GoesTo (all_kinds kinds) k g → IsDecidedBy kinds k (decider_at kinds g) g
+abbrev pub RivalsDecide : Type 0
+RivalsDecide = (kinds : Kinds) (k g : ℕ) → GoesTo (all_kinds kinds) k g → IsDecidedBy kinds k (rival_at kinds g) g
 
 -- The scenario of two kinds is well formed, where the first goes to the group.
 abbrev pub PairsAreScenarios : Type 0

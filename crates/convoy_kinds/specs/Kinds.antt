@@ -1,8 +1,9 @@
 -- Kinds of messages: who sends one, and where it goes. There may be many more of them than a scenario has messages.
-use Rattle.std.specs.Prelude.{ℕ, ◌<◌, ◌≤◌, List, [], length, map, slice_index_or, All, IsTrue}
+use Rattle.std.specs.Prelude.{ℕ, ◌<◌, ◌≤◌, List, [], length, map, slice_index_or, Option, All, IsTrue}
 use Rattle.std.specs.List.{IsDistinct}
 use Rattle.std.specs.List.Sorted.{IsStrictlyIncreasing}
 use Rattle.std.specs.Str.{bytes_eq}
+use Rattle.convoy_draft.specs.declared.duration.TimeUnit.{TimeUnit}
 use Rattle.convoy_draft.specs.Names.{is_name}
 use Rattle.convoy_scenario.specs.declared.sender.Sender.{Sender}
 use Rattle.convoy_scenario.specs.declared.sender.Sender.TheVariants.{Client}
@@ -16,9 +17,10 @@ pub record Kind : Type 0 where
   pub sender : Sender
   pub destinations : List ℕ
 
--- kinds of messages: a scenario that has the time, the ticks, D, the groups and the links that they share; the names of their tables; and the kinds
+-- kinds of messages: a scenario that has the time, the ticks, D, the groups and the links that they share, and the unit in which D is written, where it is a duration; the names of their tables; and the kinds
 pub record Kinds : Type 0 where
   pub setting : Scenario
+  pub unit : Option TimeUnit
   pub tables : List (List ℕ)
   pub kinds : List Kind
 
@@ -57,9 +59,10 @@ pub record IsKinds (kinds : Kinds) : Type 0 where
   pub tables_high : length kinds.tables ≤ MOST_TABLES
   pub names : All (λ name. IsTrue (is_name name)) kinds.tables
   pub names_differ : IsDistinct bytes_eq kinds.tables
+  pub kinds_low : 1 ≤ length kinds.kinds
   pub kinds_high : length kinds.kinds ≤ MOST_KINDS
   pub known : All (IsKind (length kinds.tables) (length kinds.setting.groups)) kinds.kinds
 
--- that holds of them if they are not too many
-abbrev pub IsKindsIfFew : Kinds → Type 0
-IsKindsIfFew kinds = length kinds.kinds ≤ MOST_KINDS → IsKinds kinds
+-- that holds of them if there are as many as there may be
+abbrev pub IsKindsIfCounted : Kinds → Type 0
+IsKindsIfCounted kinds = 1 ≤ length kinds.kinds → length kinds.kinds ≤ MOST_KINDS → IsKinds kinds

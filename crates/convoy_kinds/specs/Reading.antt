@@ -1,10 +1,12 @@
 -- The kinds of a text.
-use Rattle.std.specs.Prelude.{ℕ, nat_le, pos, is_none, if◌then◌else◌, List, [], ◌∷◌, length, slice_index_or, codes, Option, None, Result, Ok, Err}
+use Rattle.std.specs.Prelude.{ℕ, pos, is_none, if◌then◌else◌, List, [], ◌∷◌, slice_index_or, codes, Option, None, Result, Ok, Err}
 use Rattle.std.specs.List.{list_any, slice_get}
 use Rattle.toml.specs.Data.{Members}
 use Rattle.convoy_lines.specs.Results.{◌>>=◌}
 use Rattle.convoy_toml.specs.Reading.{scenario_of_written, table_of_text}
-use Rattle.convoy_toml.specs.Shape.{WrittenMessage, WrittenScenario}
+use Rattle.convoy_draft.specs.declared.duration.TimeUnit.{TimeUnit}
+use Rattle.convoy_draft.specs.Checks.{is_count}
+use Rattle.convoy_toml.specs.Shape.{WrittenMessage, WrittenScenario, unit_of_table}
 use Rattle.convoy_toml.specs.Times.{tick_of}
 use Rattle.convoy_toml.specs.declared.written.WrittenTime.TheVariants.{Count}
 use Rattle.convoy_kinds.specs.declared.fault.KindsFault.{KindsFault}
@@ -46,21 +48,21 @@ checked_kinds groups tables = do
   _ ← judge (checks groups (table_names tables) tables)
   Ok (kinds_from 0 groups tables)
 
--- the kinds, if they are not too many
-abbrev pub with_few : Kinds → Result Kinds KindsFault
-with_few kinds = if nat_le (length kinds.kinds) MOST_KINDS then Ok kinds else Err (OverLimit limits.Kinds)
+-- the kinds, if there are as many as there may be
+abbrev pub counted : Kinds → Result Kinds KindsFault
+counted kinds = if is_count MOST_KINDS kinds.kinds then Ok kinds else Err (OverLimit limits.Kinds)
 
--- the kinds of what is written: what they share first, with its times in ticks, then the rules for tables
-abbrev pub kinds_of_written : WrittenKinds → Result Kinds KindsFault
-kinds_of_written written = do
+-- the kinds of what is written, with this unit of D: what they share first, with its times in ticks, then the rules for tables
+abbrev pub kinds_of_written : Option TimeUnit → WrittenKinds → Result Kinds KindsFault
+kinds_of_written unit written = do
   tick ← of_scenario (tick_of written.setting)
   setting ← of_scenario (scenario_of_written (written_setting written tick))
   kinds ← checked_kinds setting.groups written.tables
-  with_few (record { setting = setting; tables = table_names written.tables; kinds = kinds })
+  counted (record { setting = setting; unit = unit; tables = table_names written.tables; kinds = kinds })
 
 -- what a table gives: its shape first, then what is said of that
 abbrev pub kinds_of_members : Members → Result Kinds KindsFault
-kinds_of_members table = written_of_table table >>= kinds_of_written
+kinds_of_members table = written_of_table table >>= kinds_of_written (unit_of_table table)
 
 -- what a text gives
 abbrev pub kinds_of_text : List ℕ → Result Kinds KindsFault

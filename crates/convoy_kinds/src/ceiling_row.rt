@@ -7,6 +7,6 @@ pub struct CeilingRow {
     pub group: usize,
     /// The ceiling, in ticks: above it no message of the kind has a latency at the group.
     pub ceiling: u32,
-    /// The number of the kind beside which it has that ceiling.
-    pub decides: usize,
+    /// The number of the rival, the kind beside which it has that ceiling: a message of the one waits for one of the other.
+    pub rival: usize,
 }

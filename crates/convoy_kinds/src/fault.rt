@@ -18,7 +18,7 @@ pub enum KindsLimit {
     Tables,
     /// `to_any` has one number or more, ascending, each from 1 to the number of groups.
     Sizes,
-    /// All tables write at most `MOST_KINDS` kinds.
+    /// All tables write 1 to `MOST_KINDS` kinds.
     Kinds,
 }
 
@@ -72,7 +72,7 @@ impl fmt::Display for KindsLimit {
                 f,
                 "to_any has one number or more, ascending, each from 1 to the number of groups"
             ),
-            KindsLimit::Kinds => write!(f, "all tables write at most {MOST_KINDS} kinds"),
+            KindsLimit::Kinds => write!(f, "all tables write 1 to {MOST_KINDS} kinds"),
         }
     }
 }

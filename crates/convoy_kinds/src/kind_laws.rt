@@ -1,7 +1,7 @@
 //! What holds of kinds. Each law is the one clause of a function that does nothing; a caller that needs the law calls the
 //! function.
 
-ghost use Rattle.convoy_kinds.specs.KindLaws.{CeilingsAreDecided, KindsMayBeAskedInPairs, PairsAreScenarios, TrafficOfPairsIsOfKinds};
+ghost use Rattle.convoy_kinds.specs.KindLaws.{RivalsDecide, KindsMayBeAskedInPairs, PairsAreScenarios, TrafficOfPairsIsOfKinds};
 
 use convoy_ceiling::ceiling_laws::ceiling_holds_for_any_kinds;
 
@@ -13,9 +13,9 @@ pub fn kinds_may_be_asked_in_pairs()
     ceiling_holds_for_any_kinds();
 }
 
-/// A kind has its ceiling at a group beside the kind that decides there, which goes there as well.
-pub fn ceilings_are_decided()
-    ensures { CeilingsAreDecided }
+/// A kind has its ceiling at a group beside the rival there, which goes there as well.
+pub fn rivals_decide()
+    ensures { RivalsDecide }
 {}
 
 /// The scenario of two kinds is well formed, where the first goes to the group.

@@ -2,7 +2,7 @@ ghost use Rattle.std.specs.Prelude.{◌≡◌, ◌<◌, length};
 ghost use Rattle.convoy_scenario.specs.Scenario.{is_addressed, message_at};
 ghost use Rattle.convoy_kinds.specs.Kinds.{IsKinds, Kind, Kinds, all_kinds, kind_name};
 
-use convoy_scenario::{Name, Scenario, Sender};
+use convoy_scenario::{Name, Scenario, Sender, TimeUnit};
 use std::marker::Model;
 
 /// A kind of messages: who sends one, and where it goes.
@@ -26,6 +26,7 @@ impl Model for Kind {
 #[derive(Drop)]
 pub struct Kinds {
     pub(crate) setting: Scenario,
+    pub(crate) unit: Option<TimeUnit>,
     pub(crate) tables: Vec<Name>,
     pub(crate) kinds: Vec<Kind>,
 }
@@ -33,7 +34,7 @@ pub struct Kinds {
 impl Model for Kinds {
     ghost Value = { Kinds };
 
-    ghost view = { λ k. record { setting = k.setting; tables = k.tables.items; kinds = k.kinds.items } };
+    ghost view = { λ k. record { setting = k.setting; unit = k.unit; tables = k.tables.items; kinds = k.kinds.items } };
 
     ghost invariant = { λ k. IsKinds (view k) };
 }
@@ -46,6 +47,13 @@ impl Kinds {
         ensures lawful { IsKinds self.now }
     {
         &self.setting
+    }
+
+    /// The unit in which the text writes D, where it writes that as a duration.
+    pub fn unit(&self) -> Option<TimeUnit>
+        ensures { result ≡ self.now.unit }
+    {
+        self.unit
     }
 
     /// How many kinds there are.

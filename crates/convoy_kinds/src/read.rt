@@ -5,9 +5,9 @@ ghost use Rattle.convoy_scenario.specs.Memory.{IsUnlessMemory};
 ghost use Rattle.convoy_scenario.specs.WellFormed.{IsScenario};
 ghost use Rattle.convoy_toml.specs.Reading.{scenario_of_written};
 ghost use Rattle.convoy_toml.specs.Times.{tick_of};
-ghost use Rattle.convoy_kinds.specs.Kinds.{IsKinds, IsKindsIfFew};
+ghost use Rattle.convoy_kinds.specs.Kinds.{IsKinds, IsKindsIfCounted};
 ghost use Rattle.convoy_kinds.specs.Numbering.{table_names};
-ghost use Rattle.convoy_kinds.specs.Reading.{checked_kinds, kinds_of_text, kinds_of_written, setting_message, setting_sender, with_few, written_setting};
+ghost use Rattle.convoy_kinds.specs.Reading.{checked_kinds, kinds_of_text, kinds_of_written, setting_message, setting_sender, counted, written_setting};
 ghost use Rattle.convoy_kinds.specs.Shape.{listed, of_scenario};
 
 use super::checks::check;
@@ -18,10 +18,10 @@ use super::numbers::{kinds_of, table_names};
 use super::shape::written_of_table;
 use super::written::{WrittenKind, WrittenKinds};
 use convoy_scenario::naming::draft_groups;
-use convoy_scenario::{Duration, Name, Scenario, ScenarioFault};
+use convoy_scenario::{Duration, Name, Scenario, ScenarioFault, TimeUnit};
 use convoy_toml::{
     WrittenMulticast, WrittenScenario, WrittenTime, copy_names, read_table, scenario_of_written,
-    tick_of,
+    tick_of, unit_of_table,
 };
 use std::alloc::{AllocError, Global};
 
@@ -34,33 +34,39 @@ pub fn read_kinds(alloc: Global, text: &[u8]) -> Result<Kinds, KindsFault>
     ensures lawful { IfOk result (λ kinds. IsKinds kinds) }
 {
     let table = read_table(alloc, text)?;
+    let unit = unit_of_table(&table);
     let written = written_of_table(alloc, &table)?;
-    kinds_of_written(alloc, written)
+    kinds_of_written(alloc, unit, written)
 }
 
-/// The kinds of what is written.
-fn kinds_of_written(alloc: Global, written: WrittenKinds) -> Result<Kinds, KindsFault>
-    ensures value { IsUnlessMemory (KindsFault.Scenario Memory) (kinds_of_written written) result }
+/// The kinds of what is written, with this unit of D.
+fn kinds_of_written(
+    alloc: Global,
+    unit: Option<TimeUnit>,
+    written: WrittenKinds,
+) -> Result<Kinds, KindsFault>
+    ensures value { IsUnlessMemory (KindsFault.Scenario Memory) (kinds_of_written unit written) result }
     ensures lawful { IfOk result (λ kinds. IsKinds kinds) }
 {
     let WrittenKinds { setting, tables } = written;
     let tick = tick_in(alloc, &setting)?;
     let setting = setting_in(alloc, written_setting(alloc, setting, &tables, tick)?)?;
     let names = table_names(alloc, &tables)?;
-    let kinds = checked_kinds(alloc, &setting, &names, &tables)?;
-    with_few(setting, names, kinds)
+    let kinds = checked_kinds(alloc, &setting, unit, &names, &tables)?;
+    counted(setting, unit, names, kinds)
 }
 
 /// The kinds of tables with these names, unless the tables break a rule.
 fn checked_kinds(
     alloc: Global,
     setting: &Scenario,
+    _unit: Option<TimeUnit>,
     names: &[Name],
     tables: &[WrittenKind],
 ) -> Result<Vec<Kind>, KindsFault>
     requires { names.now ≡ table_names tables.now }
     ensures value { IsUnlessMemory (KindsFault.Scenario Memory) (checked_kinds setting.now.groups tables.now) (listed result) }
-    ensures formed { IfOk result (λ kinds. IsKindsIfFew (record { setting = setting.now; tables = names.now; kinds = kinds.items })) }
+    ensures formed { IfOk result (λ kinds. IsKindsIfCounted (record { setting = setting.now; unit = _unit; tables = names.now; kinds = kinds.items })) }
 {
     let _count = setting.group_count();
     let groups = draft_groups(alloc, setting)?;
@@ -68,15 +74,21 @@ fn checked_kinds(
     Ok(kinds_of(alloc, &groups, tables)?)
 }
 
-/// The kinds, if they are not too many.
-fn with_few(setting: Scenario, tables: Vec<Name>, kinds: Vec<Kind>) -> Result<Kinds, KindsFault>
-    requires { IsKindsIfFew (record { setting = setting; tables = tables.items; kinds = kinds.items }) }
-    ensures value { result ≡ with_few (record { setting = setting; tables = tables.items; kinds = kinds.items }) }
+/// The kinds, if there are as many as there may be.
+fn counted(
+    setting: Scenario,
+    unit: Option<TimeUnit>,
+    tables: Vec<Name>,
+    kinds: Vec<Kind>,
+) -> Result<Kinds, KindsFault>
+    requires { IsKindsIfCounted (record { setting = setting; unit = unit; tables = tables.items; kinds = kinds.items }) }
+    ensures value { result ≡ counted (record { setting = setting; unit = unit; tables = tables.items; kinds = kinds.items }) }
     ensures lawful { IfOk result (λ kinds. IsKinds kinds) }
 {
-    if kinds.len() <= MOST_KINDS {
+    if 1 <= kinds.len() && kinds.len() <= MOST_KINDS {
         Ok(Kinds {
             setting,
+            unit,
             tables,
             kinds,
         })

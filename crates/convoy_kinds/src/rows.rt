@@ -7,13 +7,13 @@ ghost use Rattle.convoy_kinds.specs.Ceilings.{AreCeilingRows, AreSlowest, IsCeil
 ghost use Rattle.convoy_kinds.specs.Kinds.{all_kinds};
 
 use super::ceiling_row::CeilingRow;
-use super::kind_laws::{ceilings_are_decided, kinds_may_be_asked_in_pairs};
+use super::kind_laws::{kinds_may_be_asked_in_pairs, rivals_decide};
 use super::kinds::Kinds;
 use super::slowest::{Slowest, longest_to_commit, slowest_at};
 use std::alloc::{AllocError, Global};
 
-/// The ceiling of each kind at each group that it goes to, in the order of their numbers, in ticks, with the kind beside which
-/// it has that ceiling: the first one of which a message may be committed longest after its arrival there. Nothing is
+/// The ceiling of each kind at each group that it goes to, in the order of their numbers, in ticks, with the rival
+/// beside which it has that ceiling: the first kind of which a message may be committed longest after its arrival there. Nothing is
 /// simulated. Fails where memory runs out, and else never.
 pub fn ceiling_rows(alloc: Global, kinds: &Kinds) -> Result<Vec<CeilingRow>, AllocError>
     ensures { IfOk result (λ rows. AreCeilingRows kinds.now rows.items) }
@@ -100,7 +100,7 @@ fn row_of(kinds: &Kinds, slowest: &[Slowest], target: (usize, usize)) -> Ceiling
     requires slowest { AreSlowest kinds.now slowest.now }
     ensures { TellsCeiling kinds.now target result }
 {
-    ceilings_are_decided();
+    rivals_decide();
     kinds_may_be_asked_in_pairs();
     let _count = kinds.kind_count();
     let (kind, group) = target;
@@ -109,6 +109,6 @@ fn row_of(kinds: &Kinds, slowest: &[Slowest], target: (usize, usize)) -> Ceiling
         kind,
         group,
         ceiling: longest_to_commit(kinds, kind, group) + slowest.after,
-        decides: slowest.kind,
+        rival: slowest.kind,
     }
 }

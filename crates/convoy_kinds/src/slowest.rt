@@ -3,7 +3,7 @@
 ghost use Rattle.std.specs.Prelude.{◌≡◌, ◌≤◌, ◌*◌, ◌<◌, length};
 ghost use Rattle.convoy_scenario.specs.declared.sender.Sender.TheVariants.{Group};
 ghost use Rattle.convoy_ceiling.specs.Ceiling.{longest_after, longest_by, longest_from_arrival, longest_to_commit};
-ghost use Rattle.convoy_kinds.specs.Ceilings.{IsSlowest, decider_at};
+ghost use Rattle.convoy_kinds.specs.Ceilings.{IsSlowest, rival_at};
 ghost use Rattle.convoy_kinds.specs.Kinds.{IsKinds, all_kinds};
 
 use super::kinds::Kinds;
@@ -26,7 +26,7 @@ pub fn slowest_at(kinds: &Kinds, group: usize) -> Slowest
 {
     let after = longest_after(kinds, group);
     Slowest {
-        kind: decider_at(kinds, group, after),
+        kind: rival_at(kinds, group, after),
         after,
     }
 }
@@ -48,9 +48,9 @@ fn longest_after(kinds: &Kinds, group: usize) -> u32
 
 /// The first kind that goes to a group of which a message may be committed so long after its arrival there; 0 where there is
 /// none.
-fn decider_at(kinds: &Kinds, group: usize, longest: u32) -> usize
+fn rival_at(kinds: &Kinds, group: usize, longest: u32) -> usize
     requires { longest ≡ longest_after (all_kinds kinds.now) group }
-    ensures { result ≡ decider_at kinds.now group }
+    ensures { result ≡ rival_at kinds.now group }
 {
     for kind in 0..kinds.kind_count() {
         if kinds.goes_to(kind, group) && longest_from_arrival(kinds, group, kind) == longest {

@@ -8,7 +8,7 @@ use Rattle.convoy_kinds.proofs.Formed.{formed}
 use Rattle.convoy_kinds.proofs.read.checked_kinds.Goals as goal
 
 pub returns-clause-formed : goal.returns-clause-formed
-returns-clause-formed c few =
+returns-clause-formed c some few =
     let setting : Scenario = c.args.setting.now in
     let tables : List WrittenKind = c.args.tables.now in
     let asked = c.deref.ensures.value ∙ c.in_ok-groups.ensures in
@@ -17,5 +17,5 @@ returns-clause-formed c few =
     sym (ap₂ (λ (groups names : List (List ℕ)). judge (checks groups names tables)) asked c.requires) ∙ sym c.in_ok-check.ensures in
     let kinds : c.in_ok-kinds_of.field-0.items ≡ kinds_from 0 setting.groups tables =
     c.in_ok-kinds_of.ensures ∙ ap (λ (groups : List (List ℕ)). kinds_from 0 groups tables) numbered in
-    subst₂ (λ (names : List (List ℕ)) (all : List Kind). IsKinds (record { setting = setting; tables = names; kinds = all })) (sym c.requires) (sym kinds)
-    (formed setting tables c.group_count-count.ensures.lawful kept (subst (λ (all : List Kind). length all ≤ 4096) kinds few))
+    subst₂ (λ (names : List (List ℕ)) (all : List Kind). IsKinds (record { setting = setting; unit = c.args._unit; tables = names; kinds = all })) (sym c.requires) (sym kinds)
+    (formed setting tables c.group_count-count.ensures.lawful kept c.args._unit (subst (λ (all : List Kind). 1 ≤ length all) kinds some) (subst (λ (all : List Kind). length all ≤ 4096) kinds few))

@@ -1,5 +1,5 @@
 use Rattle.convoy_kinds.proofs.Paired.{all_decided}
-use Rattle.convoy_kinds.proofs.kind_laws.ceilings_are_decided.Goals as goal
+use Rattle.convoy_kinds.proofs.kind_laws.rivals_decide.Goals as goal
 
 pub returns : goal.returns
 returns c = all_decided

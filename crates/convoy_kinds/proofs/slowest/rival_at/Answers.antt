@@ -3,11 +3,11 @@ use Rattle.std.proofs.lemmas.Bool.{eq-eqb, ne_eqb}
 use Rattle.std.proofs.lemmas.List.{length-map}
 use Rattle.convoy_scenario.specs.Scenario.{message_at, is_addressed}
 use Rattle.convoy_ceiling.specs.Ceiling.{longest_after, longest_from_arrival}
-use Rattle.convoy_kinds.specs.Ceilings.{decider_at}
+use Rattle.convoy_kinds.specs.Ceilings.{rival_at}
 use Rattle.convoy_kinds.specs.Kinds.{Kinds, all_kinds, named}
 use Rattle.convoy_kinds.proofs.FirstPassing.{passing_all, passing_found, passing_next, passing_none}
-use Rattle.convoy_kinds.proofs.slowest.decider_at.Goals as goal
-use Rattle.convoy_kinds.proofs.slowest.decider_at.Goals.{else-goes_to-via-then-goes_to+else-longest_from_arrival-longest, else-goes_to-via-else-goes_to}
+use Rattle.convoy_kinds.proofs.slowest.rival_at.Goals as goal
+use Rattle.convoy_kinds.proofs.slowest.rival_at.Goals.{else-goes_to-via-then-goes_to+else-longest_from_arrival-longest, else-goes_to-via-else-goes_to}
 
 -- the kind goes to the group, and may take longest there
 abbrev comes : Kinds → ℕ → ℕ → Bool
@@ -24,7 +24,7 @@ no_second true b e = e
 no_second false b e = refl
 
 pub loop-kind-init : goal.loop-kind-init
-unfolding decider_at
+unfolding rival_at
 loop-kind-init c =
     let same = length-map c.args.kinds.now.kinds (named []) in
     let all : c.kind_count-kind-end.result - 0 ≡ length (map (named []) c.args.kinds.now.kinds) = omega arith in
