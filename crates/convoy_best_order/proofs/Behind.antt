@@ -1,5 +1,5 @@
 -- What a target keeps does not depend on the order of the groups behind its own.
-use Rattle.std.proofs.Common.{◌≡◌, ℕ, ◌<◌, ◌≤◌, List, ◌++◌, length, get_or, Ok, inl, inr, sym, ap, subst, ◌∙◌, arith}
+use Rattle.std.proofs.Common.{◌≡◌, ℕ, ◌<◌, List, ◌++◌, length, get_or, inl, inr, sym, ap, subst, ◌∙◌, arith}
 use Rattle.std.specs.List.{Contains}
 use Rattle.std.proofs.lemmas.Bool.{cases_lt}
 use Rattle.std.proofs.lemmas.List.{get_or_append_left, get_or_default, length-append}
@@ -12,7 +12,7 @@ use Rattle.convoy_orders.specs.Relisted.{RelistedDraftsAreRenumbered, RelistedDr
 use Rattle.convoy_orders.specs.Renumbered.{IsRenumbered}
 use Rattle.convoy_orders.proofs.Composed.{composed}
 use Rattle.convoy_orders.proofs.SameParts.{goes_back, goes_there, turned}
-use Rattle.convoy_best_order.specs.OrderLaws.{IsKeptIn, OrderBehindIsFree}
+use Rattle.convoy_best_order.specs.OrderLaws.{OrderBehindIsFree}
 use Rattle.convoy_best_order.specs.Orders.{IsOrder, listed, names_of}
 use Rattle.convoy_best_order.specs.Targets.{asked_of}
 use Rattle.convoy_best_order.proofs.Asking.{upper_from, upper_in, well_asked}

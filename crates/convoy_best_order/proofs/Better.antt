@@ -23,7 +23,6 @@ use Rattle.convoy_orders.specs.Relisted.{RelistedDraftsAreRenumbered, RelistedDr
 use Rattle.convoy_orders.specs.Renumbered.{IsRenumbered}
 use Rattle.convoy_orders.proofs.RelistedNames.{all_among, name_kept, number_low}
 use Rattle.convoy_branch.specs.Options.{Settings}
-use Rattle.convoy_best_order.specs.declared.best.Best.{Best}
 use Rattle.convoy_best_order.specs.declared.best.Reason.{Reason}
 use Rattle.convoy_best_order.specs.declared.best.Row.{Row}
 use Rattle.convoy_best_order.specs.declared.excess.Excess.{Excess}

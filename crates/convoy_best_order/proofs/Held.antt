@@ -1,29 +1,27 @@
 -- What each target keeps, one group listed after the other, and so that the order is the best.
-use Rattle.std.proofs.Common.{All, ◌≡◌, ◌⊎◌, ℕ, ◌+◌, ◌<◌, ◌≤◌, Bool, true, false, not, cond, List, [], ◌∷◌, ◌++◌, length, map, take, get_or, Option, Some, None, IfSome, inl, inr, refl, sym, ap, subst, ◌∙◌, append_assoc, append-nil, arith}
+use Rattle.std.proofs.Common.{All, ◌≡◌, ◌⊎◌, ℕ, ◌<◌, ◌≤◌, Bool, true, false, not, List, [], ◌∷◌, ◌++◌, length, map, get_or, inl, inr, refl, sym, ap, subst, ◌∙◌, append_assoc, append-nil, arith}
 use Rattle.std.specs.List.{Contains, remove}
-use Rattle.std.proofs.lemmas.Bool.{cases_lt, eq-eqb, false≢true}
+use Rattle.std.proofs.lemmas.Bool.{eq-eqb, false≢true}
 use Rattle.std.proofs.lemmas.List.{get_or-map}
 use Rattle.std.proofs.lemmas.List.Sorted.{Contains-permutation}
-use Rattle.std.proofs.lemmas.List.Elements.{All-cons, All-contains, All-head, All-map, All-more, All-tail, Contains-get_or, Contains-push_cases}
+use Rattle.std.proofs.lemmas.List.Elements.{All-cons, All-contains, All-head, All-map, All-tail, Contains-get_or, Contains-push_cases}
 use Rattle.convoy_scenario.specs.Scenario.{Scenario}
 use Rattle.convoy_scenario.specs.WellFormed.{IsScenario}
-use Rattle.convoy_sim.specs.Greatest.{IsReached, IsUpper}
+use Rattle.convoy_sim.specs.Greatest.{IsReached}
 use Rattle.convoy_sim.proofs.Membership.{contains-in, in-map, in-range, in_of_contains, in_of_filter, list_any_in}
 use Rattle.convoy_branch.specs.Options.{Settings}
 use Rattle.convoy_best_order.specs.declared.best.Reason.{Reason}
 use Rattle.convoy_best_order.specs.declared.best.Row.{Row}
-use Rattle.convoy_best_order.specs.declared.costs.Dearest.{Dearest}
 use Rattle.convoy_best_order.specs.declared.excess.Excess.{Excess}
-use Rattle.convoy_best_order.specs.declared.spread.Spread.{Spread}
 use Rattle.convoy_best_order.specs.declared.target.Target.{Target}
 use Rattle.convoy_best_order.specs.Best.{AreRows, IsRow, excess_of_reason, excess_of_row, target_of}
-use Rattle.convoy_best_order.specs.Choices.{AreCosts, AreHeldBy, AreKept, AreKeptBy, AreNoWeaker, IsCheapest, IsDear, IsHeldBy, cost_at, costs_of, dearer, groups_without, with_next}
-use Rattle.convoy_best_order.specs.Excesses.{IsAtMost, IsGreatestOf, IsLeastOf, greater, is_less}
+use Rattle.convoy_best_order.specs.Choices.{AreCosts, AreHeldBy, AreNoWeaker, IsCheapest, IsDear, IsHeldBy, cost_at, costs_of, groups_without, with_next}
+use Rattle.convoy_best_order.specs.Excesses.{IsAtMost, IsGreatestOf, IsLeastOf}
 use Rattle.convoy_best_order.specs.OrderLaws.{IsKeptIn, OrderBehindIsFree}
 use Rattle.convoy_best_order.specs.Orders.{IsOrder, group_numbers, listed}
-use Rattle.convoy_best_order.specs.Spreads.{IsSpreadIn, MayStayOpen, least_excess, most_excess}
+use Rattle.convoy_best_order.specs.Spreads.{MayStayOpen, least_excess}
 use Rattle.convoy_best_order.specs.Targets.{MayBeTarget, asked_of, has_target, is_at}
-use Rattle.convoy_best_order.proofs.Asking.{reached_least, upper_most}
+use Rattle.convoy_best_order.proofs.Asking.{reached_least}
 use Rattle.convoy_best_order.proofs.Better.{group_known, same_made}
 use Rattle.convoy_best_order.proofs.Kept.{exact_or_open}
 use Rattle.convoy_best_order.proofs.Measures.{at_most_after}

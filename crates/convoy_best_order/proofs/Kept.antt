@@ -1,5 +1,5 @@
 -- What a target keeps, and what a search shows of it.
-use Rattle.std.proofs.Common.{◌⊎◌, ℕ, ◌<◌, ◌≤◌, List, inl, inr, arith}
+use Rattle.std.proofs.Common.{◌⊎◌, ℕ, List, inl, inr, arith}
 use Rattle.std.specs.List.{Contains}
 use Rattle.std.proofs.lemmas.Bool.{cases_lt}
 use Rattle.convoy_scenario.specs.Scenario.{Scenario}

@@ -1,27 +1,21 @@
 -- One group listed after the other.
-use Rattle.std.proofs.Common.{All, ◌≡◌, ℕ, ◌+◌, ◌<◌, Bool, true, false, not, cond, List, [], ◌∷◌, ◌++◌, length, map, filter, take, get_or, Option, Some, None, IfSome, IsTrue, inl, sym, refl, ap, subst, ◌∙◌, append_assoc, arith}
-use Rattle.std.specs.List.{Contains, remove, slice_get}
+use Rattle.std.proofs.Common.{All, ◌≡◌, ℕ, ◌<◌, Bool, true, false, not, List, [], ◌∷◌, ◌++◌, length, get_or, None, IsTrue, inl, sym, refl, ap, subst, ◌∙◌, append_assoc, arith}
+use Rattle.std.specs.List.{Contains, remove}
 use Rattle.std.specs.List.Sorted.{IsPermutation}
 use Rattle.std.proofs.lemmas.Bool.{eq-eqb}
 use Rattle.std.proofs.lemmas.List.{get_or_default, length-map}
-use Rattle.std.proofs.lemmas.List.Elements.{All-contains_itself, All-head, All-push, All-tail, Contains-get_or}
+use Rattle.std.proofs.lemmas.List.Elements.{All-contains_itself, All-head, All-tail, Contains-get_or}
 use Rattle.std.proofs.lemmas.List.Sorted.{All-permutation, IsPermutation-append_right, IsPermutation-filter_both, IsPermutation-remove, IsPermutation-trans}
-use Rattle.std.proofs.lemmas.Option.{get_or_from_slice_get}
 use Rattle.convoy_scenario.specs.Scenario.{Scenario}
 use Rattle.convoy_scenario.specs.WellFormed.{IsScenario}
 use Rattle.convoy_sim.proofs.Membership.{IsIn, in-filter, in-range, in_of_contains, in_of_filter, list_any_in}
 use Rattle.convoy_branch.specs.Options.{Settings}
 use Rattle.convoy_best_order.specs.declared.best.Reason.{Reason}
-use Rattle.convoy_best_order.specs.declared.best.Row.{Row}
-use Rattle.convoy_best_order.specs.declared.costs.Dearest.{Dearest}
-use Rattle.convoy_best_order.specs.declared.excess.Excess.{Excess}
-use Rattle.convoy_best_order.specs.declared.spread.Spread.{Spread}
 use Rattle.convoy_best_order.specs.declared.target.Target.{Target}
-use Rattle.convoy_best_order.specs.Best.{AreReasons, AreRows, IsReason, IsRow, group_of, groups_of, target_of}
-use Rattle.convoy_best_order.specs.Choices.{IsDearest, dearer, groups_with, groups_without, with_next}
-use Rattle.convoy_best_order.specs.Excesses.{greater, is_less}
+use Rattle.convoy_best_order.specs.Best.{AreReasons, IsReason, group_of, groups_of}
+use Rattle.convoy_best_order.specs.Choices.{groups_with, groups_without, with_next}
 use Rattle.convoy_best_order.specs.Orders.{IsOrder, group_numbers}
-use Rattle.convoy_best_order.specs.Spreads.{IsSpreadIn, least_excess, most_excess}
+use Rattle.convoy_best_order.specs.Spreads.{IsSpreadIn}
 use Rattle.convoy_best_order.specs.Targets.{MayBeTarget, has_target, is_at}
 use Rattle.convoy_best_order.proofs.Better.{group_known}
 

@@ -1,4 +1,4 @@
-use Rattle.std.proofs.Common.{ℕ, ◌++◌, length, IsTrue}
+use Rattle.std.proofs.Common.{◌++◌, length, IsTrue}
 use Rattle.std.specs.List.{All}
 use Rattle.convoy_best_order.specs.Best.{AreReasons}
 use Rattle.convoy_best_order.specs.Choices.{AreHeldBy}
