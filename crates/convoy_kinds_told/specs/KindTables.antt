@@ -36,10 +36,19 @@ kind_cells kinds k =
     word (kind_name kinds k) ∷ word (sender_word kinds.setting (message_at (all_kinds kinds) k).sender)
     ∷ word (names_text kinds.setting (message_at (all_kinds kinds) k).destinations) ∷ []
 
--- ticks in the unit of the measure, and the unit; nothing where there is no measure
+-- ticks in the unit of the measure; nothing where there is no measure
+abbrev pub ticks_cell : Option Measure → ℕ → Cell
+ticks_cell None ticks = nothing
+ticks_cell (Some measure) ticks = numeral (told_ticks measure ticks)
+
+-- the unit of the measure, where there is one
+abbrev pub unit_cell : Option Measure → Cell
+unit_cell None = nothing
+unit_cell (Some measure) = word (unit_word measure.unit)
+
+-- ticks as a time, and its unit
 abbrev pub time_cells : Option Measure → ℕ → List Cell
-time_cells None ticks = nothing ∷ nothing ∷ []
-time_cells (Some measure) ticks = numeral (told_ticks measure ticks) ∷ word (unit_word measure.unit) ∷ []
+time_cells measure ticks = ticks_cell measure ticks ∷ unit_cell measure ∷ []
 
 -- cells that a row has where the table has columns of times
 abbrev pub where_told : Bool → List Cell → List Cell

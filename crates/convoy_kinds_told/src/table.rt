@@ -1,15 +1,16 @@
 //! The table of the ceilings of kinds.
 
-ghost use Rattle.std.specs.Prelude.{◌≡◌, ◌⊎◌, ◌++◌, map, Err, IfOk, OnOk};
+ghost use Rattle.std.specs.Prelude.{◌≡◌, ◌⊎◌, ◌∷◌, [], ◌++◌, map, codes, Err, IfOk, OnOk};
 ghost use Rattle.std.specs.List.{All};
 ghost use Rattle.convoy_draft.specs.declared.fault.ScenarioFault.TheVariants.{Memory};
 ghost use Rattle.convoy_tables.specs.Formats.{table_text};
 ghost use Rattle.convoy_kinds.specs.Ceilings.{IsCeilingRow};
 ghost use Rattle.convoy_kinds.specs.Shape.{listed};
-ghost use Rattle.convoy_kinds_told.specs.KindTables.{KindsSay, kind_columns, row_cells, table_of_kinds};
+ghost use Rattle.convoy_kinds_told.specs.KindTables.{KindsSay, has_times, kind_columns, row_cells, table_of_kinds, where_told};
+ghost use Rattle.convoy_tables.specs.Tables.{word};
 
 use super::cells::push_kind;
-use super::time_cells::{has_times, push_time};
+use super::time_cells::{has_times, push_time_if_told};
 use convoy_kinds::{CeilingRow, Kinds, KindsFault, ceiling_rows, read_kinds};
 use convoy_scenario::TimeUnit;
 use convoy_scenario::naming::group_name;
@@ -33,7 +34,7 @@ pub fn kinds_answer(
     let kinds = read_kinds(alloc, text)?;
     let rows = ceiling_rows(alloc, &kinds)?;
     let measure = Measure::of(kinds.setting(), unit, kinds.unit());
-    let text = kinds_text(alloc, format, measure, &kinds, &rows)?;
+    let text = kinds_text(alloc, format, &measure, &kinds, &rows)?;
     Ok(text)
 }
 
@@ -41,15 +42,15 @@ pub fn kinds_answer(
 fn kinds_text(
     alloc: Global,
     format: Format,
-    measure: Option<Measure>,
+    measure: &Option<Measure>,
     kinds: &Kinds,
     rows: &[CeilingRow],
 ) -> Result<Vec<u8>, AllocError>
     requires { All (IsCeilingRow kinds.now) rows.now }
     ensures { IfOk result (λ text. text.items
-        ≡ table_text format (table_of_kinds (has_times format measure) measure kinds.now rows.now)) }
+        ≡ table_text format (table_of_kinds (has_times format measure.now) measure.now kinds.now rows.now)) }
 {
-    let told = has_times(format, measure);
+    let told = has_times(format, *measure);
     let mut table = Table::new(alloc, columns_of(alloc, told)?);
     push_rows(alloc, told, measure, kinds, rows, &mut table)?;
     table_text(alloc, &table, format)
@@ -59,14 +60,14 @@ fn kinds_text(
 fn push_rows(
     alloc: Global,
     told: bool,
-    measure: Option<Measure>,
+    measure: &Option<Measure>,
     kinds: &Kinds,
     rows: &[CeilingRow],
     table: &mut Table,
 ) -> Result<(), AllocError>
     requires { All (IsCeilingRow kinds.now) rows.now }
     ensures { OnOk result (table.new ≡ record table.old {
-      rows = table.old.rows ++ map (row_cells told measure kinds.now) rows.now;
+      rows = table.old.rows ++ map (row_cells told measure.now kinds.now) rows.now;
     }) }
 {
     for row in rows {
@@ -81,31 +82,39 @@ fn columns_of(alloc: Global, told: bool) -> Result<Row, AllocError>
 {
     let mut columns = Row::new(alloc);
     columns.push_words(&["kind", "from", "to", "group", "ceiling"])?;
-    if told {
-        columns.push_words(&["ceiling_time", "unit"])?;
-    }
+    push_time_columns(told, &mut columns)?;
     columns.push_words(&["rival", "rival_from", "rival_to"])?;
     Ok(columns)
+}
+
+/// Puts the names of the columns of times at the end of a row, where times are told.
+fn push_time_columns(told: bool, columns: &mut Row) -> Result<(), AllocError>
+    ensures { OnOk result (columns.new
+        ≡ columns.old ++ where_told told (word (codes "ceiling_time") ∷ word (codes "unit") ∷ [])) }
+{
+    if told {
+        columns.push_words(&["ceiling_time", "unit"])
+    } else {
+        Ok(())
+    }
 }
 
 /// The cells of a row.
 fn cells_of(
     alloc: Global,
     told: bool,
-    measure: Option<Measure>,
+    measure: &Option<Measure>,
     kinds: &Kinds,
     row: &CeilingRow,
 ) -> Result<Row, AllocError>
     requires { IsCeilingRow kinds.now row.now }
-    ensures { IfOk result (λ cells. cells ≡ row_cells told measure kinds.now row.now) }
+    ensures { IfOk result (λ cells. cells ≡ row_cells told measure.now kinds.now row.now) }
 {
     let mut cells = Row::new(alloc);
     push_kind(alloc, kinds, row.kind, &mut cells)?;
     cells.push_word(group_name(kinds.setting(), row.group))?;
     cells.push_number(u64::from(row.ceiling))?;
-    if told {
-        push_time(alloc, measure, row.ceiling, &mut cells)?;
-    }
+    push_time_if_told(alloc, told, measure, row.ceiling, &mut cells)?;
     push_kind(alloc, kinds, row.rival, &mut cells)?;
     Ok(cells)
 }

@@ -1,4 +1,4 @@
-use Rattle.std.proofs.Common.{◌≡◌, ◌≤◌, ℕ, List, subst}
+use Rattle.std.proofs.Common.{◌≤◌, ℕ, List, subst}
 use Rattle.convoy_draft.specs.declared.duration.TheConstants.{LONGEST_DURATION}
 use Rattle.convoy_times.specs.Measures.{told_ticks}
 use Rattle.convoy_kinds_told.proofs.Numerals.{decimal_is_number}
