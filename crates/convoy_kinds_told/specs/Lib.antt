@@ -8,5 +8,10 @@ pub use Rattle.convoy_kinds.specs.Reading
 pub use Rattle.convoy_times.specs.Measures
 pub use Rattle.convoy_tables.specs.Tables
 pub use Rattle.convoy_tables.specs.Formats
--- what a reader has to believe: the table of ceilings
+pub use Rattle.convoy_ceiling.specs.Ceiling
+pub use Rattle.convoy_ceiling.specs.Finding
+pub use Rattle.convoy_toml_writer.specs.Text as ScenarioText
+pub use Rattle.convoy_sim.specs.Record
+-- what a reader has to believe: the table of ceilings, and what is told of the greatest
 pub mod KindTables
+pub mod Worst
