@@ -4,6 +4,7 @@
 
 use super::ending::End;
 use super::kept::KeptWriter;
+use super::kind_hints::{hint_for_kinds, hint_for_shared};
 use super::sweep_hints::hint_for_sweep;
 use super::table_hints::hint_for_table;
 use convoy_arguments::{Input, MOST_SECONDS, REJECTED, Verdict, hint_for_words};
@@ -101,6 +102,7 @@ fn text_of(task: &Task) -> &'static str {
         | Task::Sweep { .. }
         | Task::Curve { .. } => "a scenario",
         Task::Plan { .. } | Task::Placing { .. } => "a plan",
+        Task::Kinds { .. } | Task::WorstKind { .. } => "kinds of messages",
         Task::Ranges { .. } => "a table of round trips",
         Task::Check { .. } | Task::Explain { .. } | Task::Draw { .. } => "a certificate",
         Task::Tell(_) => "a scenario or a certificate",
@@ -211,6 +213,8 @@ fn hint_for_fault<R, W>(alloc: Global, run: &Finished<'_, R, W>, fault: &Fault) 
                 PlanFault::Scenario(*fault),
             )
         }
+        Fault::Scenario(fault) if reads_kinds(run.verdict) => hint_for_shared(alloc, *fault),
+        Fault::Kinds(fault) => hint_for_kinds(alloc, *fault).map(Some),
         Fault::Scenario(fault) if reader.is_whole() => {
             let asked = asked_of_input(run);
             hint_for_scenario_or_group(alloc, run.verdict, reader.text(), asked, *fault)
@@ -238,12 +242,19 @@ fn hint_for_fault<R, W>(alloc: Global, run: &Finished<'_, R, W>, fault: &Fault) 
         Fault::Ranges(cause) => hint_for_table(alloc, *cause),
         Fault::Scenario(_)
         | Fault::Plan(_)
-        | Fault::Kinds(_)
         | Fault::Schedule(_)
         | Fault::Order(_)
         | Fault::Reading(ReadFault::TooManyReads | ReadFault::Memory)
         | Fault::Memory => Ok(None),
     }
+}
+
+/// Whether the command line asks for what kinds of messages are read for.
+fn reads_kinds(verdict: &Verdict) -> bool {
+    matches!(
+        task_of(verdict),
+        Some(Task::Kinds { .. } | Task::WorstKind { .. })
+    )
 }
 
 /// Whether the command line asks for what a plan is read for.
@@ -300,6 +311,8 @@ fn asked_of_task(task: &Task) -> Option<&Asked> {
         | Task::BatchTable { asked, .. } => Some(asked),
         Task::Tell(_)
         | Task::Ranges { .. }
+        | Task::Kinds { .. }
+        | Task::WorstKind { .. }
         | Task::Check { .. }
         | Task::Explain { .. }
         | Task::Draw { .. } => None,
@@ -409,9 +422,9 @@ fn steps_of(verdict: &Verdict) -> Option<u64> {
 /// By how many simulations at most traffic was sought, where the command line asks for ceilings.
 fn traffic_sought(verdict: &Verdict) -> Option<u64> {
     match task_of(verdict)? {
-        Task::Ceiling { simulations, .. } | Task::Ceilings { simulations, .. } => {
-            Some(*simulations)
-        }
+        Task::Ceiling { simulations, .. }
+        | Task::Ceilings { simulations, .. }
+        | Task::WorstKind { simulations, .. } => Some(*simulations),
         _ => None,
     }
 }

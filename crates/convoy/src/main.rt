@@ -14,6 +14,7 @@ ghost use Rattle.convoy.specs.Verdicts.{IsWantedRead, Obeys, Performs, Tells, do
 mod ending;
 mod hinting;
 mod kept;
+mod kind_hints;
 mod obeying;
 mod progress;
 mod sweep_hints;

@@ -268,7 +268,17 @@ that it goes to, and with `--group GROUP` for each message that goes to that gro
 The row `*` of a message is at all its groups, which is when a client that waits for
 all of them has its answer; with `--group` there is none.
 The exit status is then 1 where memory ran out for a row, else 3 where a ceiling
-was not attained. The text need not have a target for that.";
+was not attained. The text need not have a target for that.
+
+With `--kinds` the text has tables [[kind]] in place of messages, each with who sends
+such messages and where they go, which may be thousands of kinds:
+  [[kind]]
+  name = \"transfer\"
+  from = [\"a\", \"b\"]
+  to_any = [2, 3]
+are those from a or b to any two or three groups. U is the greatest ceiling of all of
+them at all groups, in traffic of all of them; with `--all` there is a row for each kind
+at each group, with the kind beside which it has that ceiling.";
 
 pub(crate) const ABOUT_BESIDE: &str = "\
 Tells beside the answer the ceiling, which is the latency that no traffic of the
@@ -276,6 +286,9 @@ scenario's kinds of messages exceeds: in a line 'ceiling U' below it, or in a co
 
 pub(crate) const ABOUT_ALL: &str =
     "Tells the ceiling of each message at each group that it goes to, as a table";
+
+pub(crate) const ABOUT_KINDS: &str =
+    "Reads kinds of messages in place of a scenario, of which there may be thousands";
 
 pub(crate) const ABOUT_GROUP: &str =
     "Tells the ceiling at this group of each message that goes to it, as a table";

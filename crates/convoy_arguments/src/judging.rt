@@ -303,8 +303,26 @@ fn certificate_task_for(name: &str, given: &ArgMatches<'_>) -> Task {
     }
 }
 
+/// What `ceiling` asks for of kinds of messages.
+fn kinds_for(given: &ArgMatches<'_>) -> Task {
+    if given.get_flag("all") {
+        Task::Kinds {
+            format: format_of(given),
+            unit: unit_of(given),
+        }
+    } else {
+        Task::WorstKind {
+            simulations: simulations_of(given),
+            unit: unit_of(given),
+        }
+    }
+}
+
 /// What `ceiling` asks for.
 fn ceiling_for(alloc: Global, given: &ArgMatches<'_>, asked: Asked) -> Result<Task, AllocError> {
+    if given.get_flag("kinds") {
+        return Ok(kinds_for(given));
+    }
     let (simulations, unit) = (simulations_of(given), unit_of(given));
     let group = match given.get_str("group") {
         Some(name) => Some(String::from_str(alloc, name)?),

@@ -64,7 +64,20 @@ fn argument<'a>(alloc: Global, setting: Setting) -> Result<Arg<'a>, AllocError> 
         Company::OneOf(group) => argument.group(group),
         Company::With(group) => argument.requires_arg(group),
         Company::Without(other) => argument.conflicts_with(other),
+        Company::WithoutAny(others) => without_any(argument, others),
     }
+}
+
+/// An option that may stand beside none of these.
+fn without_any<'a>(
+    argument: Arg<'a>,
+    others: &'static [&'static str],
+) -> Result<Arg<'a>, AllocError> {
+    let mut argument = argument;
+    for other in others {
+        argument = argument.conflicts_with(other)?;
+    }
+    Ok(argument)
 }
 
 /// An option with its value, whatever stands beside it.

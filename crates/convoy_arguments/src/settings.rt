@@ -4,7 +4,7 @@ use super::help::{
     ABOUT_ALL, ABOUT_ALL_CHANGES, ABOUT_ALL_DEADLINES, ABOUT_ALL_TARGETS, ABOUT_ANALYSE,
     ABOUT_AT_MOST, ABOUT_BATCH, ABOUT_BATCH_AT_MOST, ABOUT_BATCH_FORMAT, ABOUT_BESIDE,
     ABOUT_BOUNDS, ABOUT_BUDGET, ABOUT_CEILING, ABOUT_CEILINGS_JOBS, ABOUT_CHECK, ABOUT_DRAW,
-    ABOUT_ENVELOPE, ABOUT_EXPLAIN, ABOUT_FIRST, ABOUT_FORMAT, ABOUT_GROUP, ABOUT_JOBS,
+    ABOUT_ENVELOPE, ABOUT_EXPLAIN, ABOUT_FIRST, ABOUT_FORMAT, ABOUT_GROUP, ABOUT_JOBS, ABOUT_KINDS,
     ABOUT_LATENCY, ABOUT_LEAST, ABOUT_LIMIT, ABOUT_LISTING, ABOUT_MARGIN, ABOUT_OF_CEILING,
     ABOUT_ORDER, ABOUT_PACKETS, ABOUT_PLACED_TARGETS, ABOUT_PLACING, ABOUT_PLAN, ABOUT_PROGRESS,
     ABOUT_RANGES, ABOUT_REPORT, ABOUT_SCENARIO, ABOUT_SECONDS, ABOUT_SEEK, ABOUT_SEEK_TRAFFIC,
@@ -90,6 +90,8 @@ pub(crate) enum Company {
     With(&'static str),
     /// Not beside this one.
     Without(&'static str),
+    /// Beside none of these.
+    WithoutAny(&'static [&'static str]),
 }
 
 /// The group of the options by which `ceiling` is asked for several ceilings.
@@ -279,6 +281,14 @@ const GROUP: Setting = Setting {
     about: ABOUT_GROUP,
     value: Value::Given("GROUP", ValueParser::String),
     company: Company::OneOf(TARGETS),
+};
+
+/// Whether the text is one of kinds of messages, which has no messages with deadlines.
+const KINDS: Setting = Setting {
+    name: "kinds",
+    about: ABOUT_KINDS,
+    value: Value::Absent,
+    company: Company::WithoutAny(&["target", "at-most", "group", "jobs"]),
 };
 
 /// Whether a survey is one of changes.
@@ -520,6 +530,7 @@ pub(crate) const COMMANDS: [Listed; 19] = [
             AT_MOST,
             ALL,
             GROUP,
+            KINDS,
             CEILINGS_FORMAT,
             UNIT,
             SEEK_TRAFFIC,

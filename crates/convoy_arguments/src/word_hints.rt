@@ -11,12 +11,13 @@ const WITH_TABLES: [&str; 7] = [
 ];
 
 /// Options of a command or two, and these commands as they are told.
-const OF_SOME: [(&str, &str); 17] = [
+const OF_SOME: [(&str, &str); 18] = [
     (
         "all",
         "'ceiling', 'budget', 'order', 'plan' and 'survey --without'",
     ),
     ("group", "'ceiling'"),
+    ("kinds", "'ceiling'"),
     ("ceiling", "'latency', 'explain', 'survey' and 'budget'"),
     ("without", "'survey'"),
     ("scenario", "'check', 'order' and 'plan'"),

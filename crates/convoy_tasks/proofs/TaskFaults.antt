@@ -23,7 +23,7 @@ use Rattle.convoy_commands.specs.declared.telling.Telling.{Telling}
 use Rattle.convoy_commands.specs.Asks.{AskSays}
 use Rattle.convoy_commands.specs.First.{first_text}
 use Rattle.convoy_commands.specs.Inputs.{reply_of_reading, reply_to_form}
-use Rattle.convoy_commands.specs.Faults.{told_of_plan, told_of_ranges}
+use Rattle.convoy_commands.specs.Faults.{told_of_kinds, told_of_plan, told_of_ranges}
 use Rattle.convoy_commands.specs.Ranging.{RangesSay, links_told}
 use Rattle.convoy_commands.specs.Replies.{fine}
 use Rattle.convoy_commands.specs.Searches.{IsFaultyBy}
@@ -40,6 +40,8 @@ use Rattle.convoy_survey.specs.CeilingTables.{CeilingsSay}
 use Rattle.convoy_what_if.specs.WhatIf.{WhatIfSays}
 use Rattle.convoy_report.specs.Reports.{ReportSays}
 use Rattle.convoy_budget.specs.Answers.{BudgetSays}
+use Rattle.convoy_kinds.specs.declared.fault.KindsFault.{KindsFault}
+use Rattle.convoy_kinds.specs.declared.fault.KindsFault.TheVariants as kinds
 use Rattle.convoy_plans.specs.declared.fault.PlanFault.{PlanFault}
 use Rattle.convoy_plans.specs.declared.fault.PlanFault.TheVariants as plans
 use Rattle.convoy_best_order.specs.declared.wanted.Wanted.{Wanted}
@@ -54,8 +56,9 @@ use Rattle.convoy_sweep.specs.declared.fault.SweepFault.TheVariants as sweeps
 use Rattle.convoy_sweep.specs.declared.kinds.Setting.{Setting}
 use Rattle.convoy_sweep.specs.declared.kinds.Sweep.{Sweep as AskedSweep}
 use Rattle.convoy_tasks.specs.declared.task.Task.{Task}
-use Rattle.convoy_tasks.specs.declared.task.Task.TheVariants.{First, Tell, Check, Explain, Draw, Ceiling, Ceilings, Analyse, Latency, Survey, WhatIf, Report, Budget, Order, Listing, Plan, Placing, Ranges, Sweep, Curve, BatchTable}
+use Rattle.convoy_tasks.specs.declared.task.Task.TheVariants.{First, Tell, Check, Explain, Draw, Ceiling, Ceilings, Kinds, WorstKind, Analyse, Latency, Survey, WhatIf, Report, Budget, Order, Listing, Plan, Placing, Ranges, Sweep, Curve, BatchTable}
 use Rattle.convoy_tasks.specs.Abouts.{check_says}
+use Rattle.convoy_tasks.specs.KindAnswers.{AreFaultyKinds}
 use Rattle.convoy_tasks.specs.Tasks.{task_says}
 
 -- the fault of an answer is that of the reply
@@ -171,6 +174,17 @@ placing_no_device : (wanted : Wanted) (asked : Asked) (settings : Settings) (tex
 placing_no_device wanted asked settings text fault (inl faulty) = rw faulty.told (no_device_in_plan faulty.cause)
 placing_no_device wanted asked settings text fault (inr none) = rw none.told tt
 
+-- why a text is that of no kinds of messages is no device's fault
+no_device_in_kinds : (cause : KindsFault) → IsNoDevice (told_of_kinds cause)
+no_device_in_kinds (kinds.Scenario cause) = no_device_in_scenario cause
+no_device_in_kinds (kinds.Shape key) = tt
+no_device_in_kinds kinds.NotOneTo = tt
+no_device_in_kinds (kinds.OverLimit limit) = tt
+no_device_in_kinds kinds.DoubleSender = tt
+
+kinds_no_device : (text : List ℕ) (fault : Fault) → AreFaultyKinds text fault → IsNoDevice fault
+kinds_no_device text fault faulty = rw faulty.told (no_device_in_kinds faulty.cause)
+
 pub says_no_device : (task : Task) (wanted : Option Scenario) (text : List ℕ) (fault : Fault) → task_says task wanted text (Err fault) → IsNoDevice fault
 says_no_device (First asked) wanted text fault says = first_no_device asked text fault (fault_of_fine (first_text asked text) fault says)
 says_no_device (Tell telling) wanted text fault says = tell_no_device telling text fault says
@@ -182,6 +196,8 @@ says_no_device (Draw unit limit) wanted text fault says =
     draw_no_device unit text fault (fault_within limit NotChecked (AskSays (askings.Draw unit)) text fault says)
 says_no_device (Ceiling simulations asked unit) wanted text fault says = search_no_device asked text fault says
 says_no_device (Ceilings format group simulations asked unit) wanted text fault says = ceilings_no_device format asked unit (option_map string_bytes group) text fault says
+says_no_device (Kinds format unit) wanted text fault says = kinds_no_device text fault says
+says_no_device (WorstKind simulations unit) wanted text fault says = kinds_no_device text fault says
 says_no_device (Analyse asked options) wanted text fault says = search_no_device asked text fault says
 says_no_device (Latency with_ceiling asked options) wanted text fault says = latency_no_device with_ceiling asked options text fault says
 says_no_device (Survey format with_ceilings asked options) wanted text fault says = search_no_device asked text fault says

@@ -26,8 +26,9 @@ use Rattle.convoy_sweep.specs.Told.{CurveTold, SweepTold}
 use Rattle.convoy_tasks.specs.declared.batch_table.TheConstants.{LONGEST_BATCH}
 use Rattle.convoy_tasks.specs.BatchTables.{BatchTableSays}
 use Rattle.convoy_tasks.specs.declared.task.Task.{Task}
-use Rattle.convoy_tasks.specs.declared.task.Task.TheVariants.{First, Tell, Check, Explain, Draw, Ceiling, Ceilings, Analyse, Latency, Survey, WhatIf, Report, Budget, Order, Listing, Plan, Placing, Ranges, Sweep, Curve, BatchTable}
+use Rattle.convoy_tasks.specs.declared.task.Task.TheVariants.{First, Tell, Check, Explain, Draw, Ceiling, Ceilings, Kinds, WorstKind, Analyse, Latency, Survey, WhatIf, Report, Budget, Order, Listing, Plan, Placing, Ranges, Sweep, Curve, BatchTable}
 use Rattle.convoy_tasks.specs.Abouts.{check_says}
+use Rattle.convoy_tasks.specs.KindAnswers.{KindTableSays, WorstKindSays}
 
 -- THE RULE OF A TASK: what may be answered for a text. The scenario that is wanted, if one is, is that of which a certificate has to be; no other task looks at it.
 abbrev pub task_says : Task → Option Scenario → Rule
@@ -38,6 +39,8 @@ task_says (Explain with_ceiling unit limit) wanted = SaysWithin limit NotChecked
 task_says (Draw unit limit) wanted = SaysWithin limit NotChecked (AskSays (askings.Draw unit))
 task_says (Ceiling simulations asked unit) wanted = CeilingSays asked unit
 task_says (Ceilings format group simulations asked unit) wanted = CeilingsSay format asked unit (option_map string_bytes group)
+task_says (Kinds format unit) wanted = KindTableSays format unit
+task_says (WorstKind simulations unit) wanted = WorstKindSays unit
 task_says (Analyse asked options) wanted = AnalyseSays asked options
 task_says (Latency with_ceiling asked options) wanted = latency_says with_ceiling asked options
 task_says (Survey format with_ceilings asked options) wanted = SurveySays format with_ceilings asked options
@@ -62,6 +65,8 @@ longest_for (Explain with_ceiling unit limit) = LONGEST_CERTIFICATE
 longest_for (Draw unit limit) = LONGEST_CERTIFICATE
 longest_for (Ceiling simulations asked unit) = LONGEST_JOB
 longest_for (Ceilings format group simulations asked unit) = LONGEST_JOB
+longest_for (Kinds format unit) = LONGEST_JOB
+longest_for (WorstKind simulations unit) = LONGEST_JOB
 longest_for (Analyse asked options) = LONGEST_JOB
 longest_for (Latency with_ceiling asked options) = LONGEST_JOB
 longest_for (Survey format with_ceilings asked options) = LONGEST_JOB

@@ -9,6 +9,7 @@ ghost use Rattle.convoy_tasks.specs.Tasks.{NeedsNoSearch, longest_for, task_says
 
 use super::batch_table::{LONGEST_BATCH, batch_table_answer};
 use super::checking::check_answer;
+use super::kinds::{answer_kinds, answer_worst_kind};
 use super::task::Task;
 use convoy_best_order::{listing_answer, order_answer};
 use convoy_best_plan::{placing_answer, plan_answer};
@@ -36,8 +37,8 @@ use std::thread::Threads;
 ///
 /// The faults are those of a text: `Fault::Scenario` where it is that of no scenario, where none of its groups has the
 /// name that is given, or where a change of it makes none; `Fault::Sweep` where its keys can't be given the values of a
-/// sweep; `Fault::Plan` where it is that of no plan, or of one that has no placement; `Fault::Schedule` and
-/// `Fault::Order` for a schedule that is none of it; `Fault::Reading` for a scenario of more than [`LONGEST_JOB`] bytes
+/// sweep; `Fault::Plan` where it is that of no plan, or of one that has no placement; `Fault::Kinds` where it is that of no
+/// kinds of messages; `Fault::Schedule` and `Fault::Order` for a schedule that is none of it; `Fault::Reading` for a scenario of more than [`LONGEST_JOB`] bytes
 /// where a certificate may be longer; `Fault::TooManyJobs`; and `Fault::Memory`.
 pub fn answer<R: Threads + Wait + Sync, W: Watch + Sync>(
     rt: &R,
@@ -191,6 +192,8 @@ pub fn answer<R: Threads + Wait + Sync, W: Watch + Sync>(
         | Task::Explain { .. }
         | Task::Draw { .. }
         | Task::Ranges { .. }
+        | Task::Kinds { .. }
+        | Task::WorstKind { .. }
         | Task::Ceiling { .. } => answer_at_once(alloc, task, wanted, text),
     }
 }
@@ -224,6 +227,13 @@ pub(crate) fn answer_at_once(
             asked,
             unit,
         } => ceiling_answer(alloc, *simulations, asked, *unit, text),
+        Task::Kinds { format, unit } => answer_kinds(alloc, *format, *unit, text),
+        Task::WorstKind { simulations, unit } => answer_worst_kind(
+            alloc,
+            *simulations,
+            *unit,
+            text,
+        ),
         Task::Ceilings { .. }
         | Task::Analyse { .. }
         | Task::Latency { .. }
@@ -317,6 +327,8 @@ pub fn longest_of(task: &Task) -> usize
         Task::First { .. }
         | Task::Ceiling { .. }
         | Task::Ceilings { .. }
+        | Task::Kinds { .. }
+        | Task::WorstKind { .. }
         | Task::Analyse { .. }
         | Task::Latency { .. }
         | Task::Survey { .. }

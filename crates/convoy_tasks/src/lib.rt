@@ -25,6 +25,7 @@ mod ended;
 mod job_row;
 mod job_table;
 mod kept_jobs;
+mod kinds;
 mod running;
 mod task;
 pub mod task_laws;

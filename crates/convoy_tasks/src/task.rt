@@ -51,6 +51,16 @@ pub enum Task {
         asked: Asked,
         unit: Option<TimeUnit>,
     },
+    /// The ceiling of each of the kinds of messages of a text at each group, as a table in that format.
+    Kinds {
+        format: Format,
+        unit: Option<TimeUnit>,
+    },
+    /// The greatest of these ceilings, and traffic that is sought by so many simulations at most.
+    WorstKind {
+        simulations: u64,
+        unit: Option<TimeUnit>,
+    },
     /// A certificate of the greatest latency.
     Analyse {
         asked: Asked,
