@@ -28,7 +28,7 @@ class Answer(typing.NamedTuple):
 
 def example_scenarios():
     """The texts of examples/ that are scenarios; others are plans."""
-    return sorted(path for path in (ROOT / "examples").glob("*.toml") if path.suffixes != [".plan", ".toml"])
+    return sorted(path for path in (ROOT / "examples").glob("*.toml") if path.suffixes == [".toml"])
 
 
 def load(path):
