@@ -27,7 +27,7 @@ class Answer(typing.NamedTuple):
 
 
 def example_scenarios():
-    """The texts of examples/ that are scenarios; others are plans."""
+    """The texts of examples/ that are scenarios; others are plans, and kinds of messages."""
     return sorted(path for path in (ROOT / "examples").glob("*.toml") if path.suffixes == [".toml"])
 
 
