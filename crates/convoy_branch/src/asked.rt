@@ -1,7 +1,7 @@
 //! What a search learns where it asks whether a region is closed.
 
 use convoy_certificate::Node;
-use convoy_leads::{LeadTest, Opening};
+use convoy_leads::{LeadTest, Opening, Scratch};
 
 /// What is known of a region where it was asked whether it is closed for a latency.
 #[derive(Drop)]
@@ -18,6 +18,8 @@ pub(crate) struct Asked<'a> {
 #[derive(Drop)]
 pub(crate) struct LeftOpen<'a> {
     pub test: LeadTest<'a>,
+    /// What the test was told from.
+    pub scratch: Scratch,
     pub opening: Option<Opening>,
 }
 

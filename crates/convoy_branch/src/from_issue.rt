@@ -12,7 +12,7 @@ use super::asked::{Asked, LeftOpen};
 use super::bounds::Bounds;
 use convoy_certificate::Node;
 use convoy_intervals::Tracked;
-use convoy_leads::{LeadTest, Shown};
+use convoy_leads::{LeadTest, Scratch, Shown};
 use convoy_narrowing::narrowed;
 use convoy_packets::Instance;
 use convoy_regions::Branch;
@@ -89,12 +89,13 @@ fn ask_leads<'a>(
         (λ asked. IfSome asked.left (λ left. IsLeftFromIssue instance.now branch.now.region left.value)) }
 {
     let test = LeadTest::of(alloc, instance, branch.delay_box())?;
-    let shown = test.shows(latency)?;
+    let mut scratch = Scratch::new(alloc);
+    let shown = test.shows(latency, &mut scratch)?;
     if shown.is_closed() {
         return Ok(Asked::closed(Node::Lead { latency }));
     }
     if branch.before().is_empty() {
-        return left_open(alloc, test, shown, latency);
+        return left_open(alloc, test, scratch, shown, latency);
     }
     ask_narrowed(alloc, instance, branch, latency)
 }
@@ -113,11 +114,12 @@ fn ask_narrowed<'a>(
         (λ asked. IfSome asked.left (λ left. IsLeftFromIssue instance.now branch.now.region left.value)) }
 {
     let test = narrowed_test(alloc, instance, branch)?;
-    let shown = test.shows(latency)?;
+    let mut scratch = Scratch::new(alloc);
+    let shown = test.shows(latency, &mut scratch)?;
     if shown.is_closed() {
         return Ok(Asked::closed(Node::Lead { latency }));
     }
-    left_open(alloc, test, shown, latency)
+    left_open(alloc, test, scratch, shown, latency)
 }
 
 /// The test of the windows of a region. The error is that memory ran out.
@@ -136,11 +138,12 @@ fn narrowed_test<'a>(
     LeadTest::over(alloc, instance, windows)
 }
 
-/// What is known where a test does not close its windows for a latency in ticks, but shows that of them. The
-/// error is that memory ran out.
+/// What is known where a test, with this scratch, does not close its windows for a latency in ticks, but shows that of
+/// them. The error is that memory ran out.
 fn left_open<'a>(
     alloc: Global,
     test: LeadTest<'a>,
+    mut scratch: Scratch,
     shown: Shown,
     latency: u32,
 ) -> Result<Asked<'a>, AllocError>
@@ -149,10 +152,17 @@ fn left_open<'a>(
     ensures left { IfOk result (λ asked. IfSome asked.left (λ left.
         (left.value.test ≡ test.entry) × IfSome left.value.opening (IsOpening test.entry.scenario))) }
 {
-    let opening = test.opening(shown, latency)?;
+    let opening = test.opening(shown, latency, &mut scratch)?;
     Ok(Asked {
         leaf: None,
-        left: Some(Box::new(alloc, LeftOpen { test, opening })?),
+        left: Some(Box::new(
+            alloc,
+            LeftOpen {
+                test,
+                scratch,
+                opening,
+            },
+        )?),
     })
 }
 
@@ -189,9 +199,10 @@ fn raised_by_leads(
     let mut low = upper;
     let mut high = bound;
     let test = narrowed_test(alloc, instance, branch)?;
+    let mut scratch = Scratch::new(alloc);
     while low < high {
         let middle = low + (high - low) / 2;
-        if test.shows(middle)?.is_closed() {
+        if test.shows(middle, &mut scratch)?.is_closed() {
             high = middle;
         } else {
             low = middle + 1;

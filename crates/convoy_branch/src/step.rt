@@ -175,7 +175,7 @@ pub(crate) fn wished(
     let Some(opening) = &left.opening else {
         return Ok(None);
     };
-    let links = left.test.barred_links(&opening.case)?;
+    let links = left.test.barred_links(&opening.case, &left.scratch)?;
     let delay_box = branch.delay_box();
     match origin.moved() {
         None => {

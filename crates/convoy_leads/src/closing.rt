@@ -10,6 +10,7 @@ use super::lead_test::LeadTest;
 use convoy_intervals::DelayBox;
 use convoy_intervals::box_laws::members_are_assignments;
 use convoy_packets::Instance;
+use convoy_starts::Scratch;
 use std::alloc::{AllocError, Global};
 
 /// Whether leads close a box for a latency in ticks, so that no schedule of the box has a greater one
@@ -31,6 +32,6 @@ pub fn closes_by_leads(
     members_are_assignments();
     let _scenario = instance.scenario();
     let test = LeadTest::of(alloc, instance, delay_box)?;
-    let shown = test.shows(latency)?;
+    let shown = test.shows(latency, &mut Scratch::new(alloc))?;
     Ok(shown.is_closed())
 }

@@ -69,44 +69,58 @@ impl<'a> LeadTest<'a> {
         })
     }
 
-    /// What leads show of the windows for a latency in ticks. The error is that memory ran out.
-    pub fn shows(&self, latency: u32) -> Result<Shown, AllocError>
+    /// What leads show of the windows for a latency in ticks. What they were told from stays in the scratch. The
+    /// error is that memory ran out.
+    pub fn shows(&self, latency: u32, scratch: &mut Scratch) -> Result<Shown, AllocError>
         ensures closed { IfOk result (λ shown. is_closed shown
             ≡ closes_over self.now.scenario self.now.windows latency) }
         ensures case { IfOk result (IsShown self.now.scenario) }
     {
-        let mut scratch = Scratch::new(self.alloc);
-        self.facts.shown(&self.windows, latency, &mut scratch)
+        self.facts.shown(&self.windows, latency, scratch)
     }
 
-    /// What keeps the windows open for a latency in ticks, for which leads show that of them: a case, and the
-    /// chain of links of it. None where there is no case: leads close the windows, or the target alone may
-    /// be late. The error is that memory ran out.
-    pub fn opening(&self, shown: Shown, latency: u32) -> Result<Option<Opening>, AllocError>
+    /// What keeps the windows open for a latency in ticks, for which leads have just shown that of them with this
+    /// scratch: a case, and the chain of links of it. None where there is no case: leads close the windows, or the
+    /// target alone may be late. The error is that memory ran out.
+    pub fn opening(
+        &self,
+        shown: Shown,
+        latency: u32,
+        scratch: &mut Scratch,
+    ) -> Result<Option<Opening>, AllocError>
         requires { IsShown self.now.scenario shown }
         ensures { IfOk result (λ found. IfSome found (IsOpening self.now.scenario)) }
     {
-        let mut scratch = Scratch::new(self.alloc);
-        let Some(case) = self.first_case(shown, latency, &mut scratch)? else {
+        let Some(case) = self.first_case(shown, latency, scratch)? else {
             return Ok(None);
         };
-        let links = self
-            .facts
-            .links(&case.windows, case.rival, false, &mut scratch)?;
+        let links = self.links(&case, false, scratch)?;
         Ok(Some(Opening { case, links }))
     }
 
-    /// The chain of links of an open case of the windows, where each message in turn is told to be committed
-    /// nowhere before: no two links of it go to and fro between the same two stamps, and so there are more
-    /// often runs that do all that it wants than of the chain of the case's [`opening`](LeadTest::opening).
-    /// The error is that memory ran out.
-    pub fn barred_links(&self, case: &OpenCase) -> Result<Vec<Link>, AllocError>
+    /// The chain of links of the case that was found open last with this scratch, where each message in turn is
+    /// told to be committed nowhere before: no two links of it go to and fro between the same two stamps, and so
+    /// there are more often runs that do all that it wants than of the chain of the case's
+    /// [`opening`](LeadTest::opening). The error is that memory ran out.
+    pub fn barred_links(&self, case: &OpenCase, scratch: &Scratch) -> Result<Vec<Link>, AllocError>
         requires { IsOpenCase self.now.scenario case.now }
         ensures { IfOk result (λ links. All (IsLink self.now.scenario) links.items) }
     {
-        let mut scratch = Scratch::new(self.alloc);
+        self.links(case, true, scratch)
+    }
+
+    /// The chain of links of that case, with no message barred but the target, or with each.
+    fn links(
+        &self,
+        case: &OpenCase,
+        barring: bool,
+        scratch: &Scratch,
+    ) -> Result<Vec<Link>, AllocError>
+        requires { IsOpenCase self.now.scenario case.now }
+        ensures { IfOk result (λ links. All (IsLink self.now.scenario) links.items) }
+    {
         self.facts
-            .links(&case.windows, case.rival, true, &mut scratch)
+            .links(self.alloc, &case.windows, case.rival, barring, scratch)
     }
 
     /// The first case that leads leave open, which is looked for where the target may be late.

@@ -3,7 +3,7 @@
 #![tactic(auto)]
 
 pub use closing::closes_by_leads;
-pub use convoy_starts::{Commit, Link};
+pub use convoy_starts::{Commit, Link, Scratch};
 pub use lead_test::LeadTest;
 pub use open_case::OpenCase;
 pub use opening::Opening;

@@ -5,7 +5,7 @@ use super::facts::Facts;
 use super::open_case::OpenCase;
 use convoy_starts::{Link, Scratch};
 use convoy_sure::Windows;
-use std::alloc::AllocError;
+use std::alloc::{AllocError, Global};
 
 /// What leads leave open of a box: the first case, and how a stamp of the target may exceed the
 /// rival's there.
@@ -20,22 +20,24 @@ pub struct Opening {
 
 impl<'a> Facts<'a> {
     /// The chain by which a stamp of the target may exceed that of message `n` in windows, with no message
-    /// barred but the target, or with each.
+    /// barred but the target, or with each. The last test that used the scratch was that of these windows and
+    /// this message.
     pub(crate) fn links(
         &self,
+        alloc: Global,
         windows: &Windows,
         n: usize,
         barring: bool,
-        scratch: &mut Scratch,
+        scratch: &Scratch,
     ) -> Result<Vec<Link>, AllocError>
         requires { n < length self.now.scenario.now.multicasts }
         ensures { IfOk result (λ links. All (IsLink self.now.scenario.now) links.items) }
     {
         if !self.arrives_behind(windows, n) {
-            return Ok(Vec::new(scratch.alloc));
+            return Ok(Vec::new(alloc));
         }
-        let sure = self.sure_of(scratch.alloc, windows, n)?;
+        let sure = self.sure_of(alloc, windows, n)?;
         let setting = self.setting(windows, &sure, barring);
-        setting.links(&self.pairs, scratch)
+        setting.links(scratch)
     }
 }

@@ -7,7 +7,7 @@ ghost use Rattle.convoy_narrowing.specs.Narrowing.{closes_narrowed, closes_regio
 
 use super::narrowing::narrowed;
 use convoy_intervals::DelayBox;
-use convoy_leads::{LeadTest, closes_by_leads};
+use convoy_leads::{LeadTest, Scratch, closes_by_leads};
 use convoy_packets::Instance;
 use convoy_regions::Precedence;
 use std::alloc::{AllocError, Global};
@@ -51,6 +51,6 @@ fn closes_narrowed(
 {
     let windows = narrowed(alloc, instance, delay_box, before)?;
     let test = LeadTest::over(alloc, instance, windows)?;
-    let shown = test.shows(latency)?;
+    let shown = test.shows(latency, &mut Scratch::new(alloc))?;
     Ok(shown.is_closed())
 }

@@ -1,6 +1,5 @@
-ghost use Rattle.std.specs.Prelude.{◌≡◌, ◌*◌, ◌<◌, ◌≤◌, length, All, IfOk, IfSome};
+ghost use Rattle.std.specs.Prelude.{◌≡◌, ◌*◌, ◌<◌, ◌≤◌, length, All, IfOk, IfSome, IsTrue};
 ghost use Rattle.convoy_draft.specs.declared.limits.TheConstants.{MOST_GROUPS, MOST_MULTICASTS};
-ghost use Rattle.convoy_stamps.specs.Reach.{pairs_of};
 ghost use Rattle.convoy_starts.specs.Links.{IsLink};
 
 use super::scratch::Scratch;
@@ -9,7 +8,6 @@ use super::stamps::{may_have_come, may_precede};
 use super::start::Start;
 use convoy_scenario::{MOST_GROUPS, MOST_MULTICASTS};
 use convoy_sim::next_arrival;
-use convoy_stamps::Pair;
 use convoy_sure::{Messages, destinations};
 use std::alloc::{AllocError, Global};
 
@@ -234,18 +232,32 @@ impl<'a> Setting<'a> {
         None
     }
 
-    /// The chain for the first destination of the target at which its stamp is not surely less, with
-    /// the starts that are to be had; no link where there is none.
-    pub fn links(&self, pairs: &[Pair], scratch: &mut Scratch) -> Result<Vec<Link>, AllocError>
-        requires pairs { pairs.now ≡ pairs_of self.now.scenario.now }
-        requires messages { All (λ p. p.message < length self.now.scenario.now.multicasts) pairs.now }
-        requires groups { All (λ p. p.group < MOST_GROUPS) pairs.now }
+    /// Whether the messages of some starts are of the scenario.
+    fn are_starts(&self, starts: &[Start]) -> bool
+        ensures { IsTrue result → All (λ s. s.message < length self.now.scenario.now.multicasts) starts.now }
+    {
+        let count = self.scenario.message_count();
+        for start in starts {
+            if start.message() >= count {
+                return false;
+            }
+        }
+        true
+    }
+
+    /// The chain for the first destination of the target at which its stamp is not surely less, with the
+    /// starts that the last test left in the scratch: that of this setting, if its chain is to be told. No
+    /// link where there is no such destination. The error is that memory ran out.
+    pub fn links(&self, scratch: &Scratch) -> Result<Vec<Link>, AllocError>
         ensures { IfOk result (λ links. All (IsLink self.now.scenario.now) links.items) }
     {
-        self.write_all_starts(pairs, scratch)?;
-        match self.open_group(&scratch.starts) {
+        let starts = scratch.starts(self.barring);
+        if !self.are_starts(starts) {
+            return Ok(Vec::new(scratch.alloc));
+        }
+        match self.open_group(starts) {
             None => Ok(Vec::new(scratch.alloc)),
-            Some(group) => self.chain(scratch.alloc, &scratch.starts, group),
+            Some(group) => self.chain(scratch.alloc, starts, group),
         }
     }
 }

@@ -1,10 +1,11 @@
-ghost use Rattle.std.specs.Prelude.{◌≡◌, ◌<◌, ◌≤◌, ◌==◌, ◌||◌, length, All, IfOk, OnOk};
+ghost use Rattle.std.specs.Prelude.{◌≡◌, ◌<◌, ◌≤◌, ◌==◌, ◌||◌, length, All, IfOk};
 ghost use Rattle.convoy_draft.specs.declared.limits.TheConstants.{MOST_GROUPS, MOST_MULTICASTS};
 ghost use Rattle.convoy_stamps.specs.Reach.{pairs_of};
 ghost use Rattle.convoy_sure.specs.Windows.{tables_by};
-ghost use Rattle.convoy_starts.specs.Starts.{first_past, is_surely_less, last_arrival, starts_before};
+ghost use Rattle.convoy_starts.specs.Starts.{first_past, is_surely_less, last_arrival};
 ghost use Rattle.convoy_starts.specs.Tests.{is_less_by, is_less_elsewhere};
 
+use super::memo::Memo;
 use super::scratch::Scratch;
 use super::setting::Setting;
 use super::start::Start;
@@ -81,33 +82,27 @@ impl<'a> Setting<'a> {
         true
     }
 
-    /// Writes all starts that there may be into the scratch, in the place of those that stood there.
-    pub(crate) fn write_all_starts(
+    /// The same by all starts that there may be, which are written in the place of those that stood in the list.
+    fn is_led_by(
         &self,
         pairs: &[Pair],
-        scratch: &mut Scratch,
-    ) -> Result<(), AllocError>
+        starts: &mut Vec<Start>,
+        memos: &mut Vec<Memo>,
+        nexts: &mut Vec<u32>,
+    ) -> Result<bool, AllocError>
         requires pairs { pairs.now ≡ pairs_of self.now.scenario.now }
         requires messages { All (λ p. p.message < length self.now.scenario.now.multicasts) pairs.now }
         requires groups { All (λ p. p.group < MOST_GROUPS) pairs.now }
-        ensures { OnOk result (scratch.new.starts.items ≡ starts_before self.now.scenario.now
-            (tables_by self.now.windows.now) self.now.sure.now self.now.barring
-            (first_past self.now.scenario.now.time
-            (last_arrival self.now.scenario.now (tables_by self.now.windows.now).times))) }
+        ensures { IfOk result (λ led. led ≡ is_less_elsewhere self.now.scenario.now
+            (tables_by self.now.windows.now) self.now.sure.now self.now.barring) }
     {
         let end = first_past(self.time, self.last_arrival());
-        self.write_starts(
-            pairs,
-            end,
-            &mut scratch.starts,
-            &mut scratch.memos,
-            &mut scratch.nexts,
-        )?;
-        Ok(())
+        self.write_starts(pairs, end, starts, memos, nexts)?;
+        Ok(self.is_less_elsewhere(starts))
     }
 
     /// Whether each stamp of the target at another group than its own is surely less than that of the
-    /// message of which something is sure, by all starts that there may be.
+    /// message of which something is sure, by all starts that there may be. The scratch keeps these.
     pub fn is_led(&self, pairs: &[Pair], scratch: &mut Scratch) -> Result<bool, AllocError>
         requires pairs { pairs.now ≡ pairs_of self.now.scenario.now }
         requires messages { All (λ p. p.message < length self.now.scenario.now.multicasts) pairs.now }
@@ -115,8 +110,18 @@ impl<'a> Setting<'a> {
         ensures { IfOk result (λ led. led ≡ is_less_elsewhere self.now.scenario.now
             (tables_by self.now.windows.now) self.now.sure.now self.now.barring) }
     {
-        self.write_all_starts(pairs, scratch)?;
-        Ok(self.is_less_elsewhere(&scratch.starts))
+        let Scratch {
+            plain,
+            barred,
+            memos,
+            nexts,
+            ..
+        } = scratch;
+        if self.barring {
+            self.is_led_by(pairs, barred, memos, nexts)
+        } else {
+            self.is_led_by(pairs, plain, memos, nexts)
+        }
     }
 }
 

@@ -63,12 +63,21 @@ pub(crate) struct Wishing<'a> {
     scene: Scene<'a>,
     /// Which commits the chain wants soon.
     soon: SoonCommits,
+    /// What was laid and simulated.
+    laid: Vec<Laid>,
     /// The schedule that is simulated next.
     tried: Schedule,
     /// The greatest latency that is known, in ticks.
     known: u32,
     /// The record of the greatest latency above that, if one was found.
     best: Option<Record>,
+}
+
+/// What a schedule is laid by.
+#[derive(Clone, Copy, PartialEq, Eq)]
+struct Laid {
+    ticks: EventTicks,
+    end: End,
 }
 
 impl<'a> Wishing<'a> {
@@ -85,6 +94,7 @@ impl<'a> Wishing<'a> {
             alloc,
             scene,
             soon,
+            laid: Vec::new(alloc),
             tried,
             known,
             best: None,
@@ -113,31 +123,43 @@ impl<'a> Wishing<'a> {
         ensures { HasTried self.old self.new }
     {
         let mark = latest.mark();
-        self.lay(latest, end);
-        self.simulate()?;
+        self.try_laid(Laid::by(latest, end))?;
         self.scene.keep_rival_first(latest)?;
-        self.lay(latest, end);
+        let first = Laid::by(latest, end);
+        self.lay(&first);
         let moments = Moments::of(self.scene.instance, &self.tried);
-        if self.scene.keep_low(latest, &moments)? {
-            self.lay(latest, end);
-        }
-        self.simulate()?;
+        let low = if self.scene.keep_low(latest, &moments)? {
+            Laid::by(latest, end)
+        } else {
+            first
+        };
+        self.try_laid(low)?;
         latest.back_to(&mark);
         Ok(())
     }
 
-    /// Lays the schedule that is tried by one end of the ticks that wishes leave.
-    fn lay(&mut self, latest: &Latest, end: End)
+    /// Lays a schedule and simulates it, unless it was before.
+    fn try_laid(&mut self, laid: Laid) -> Result<(), AllocError>
+        requires { IsWishing self.old.scene.instance.now self.old.scene.delay_box.now self.old.known self.old }
+        ensures { HasTried self.old self.new }
+    {
+        if self.laid.contains(&laid) {
+            return Ok(());
+        }
+        self.laid.push(laid)?;
+        self.lay(&laid);
+        self.simulate()
+    }
+
+    /// Lays the schedule that is tried.
+    fn lay(&mut self, laid: &Laid)
         requires { IsWishing self.old.scene.instance.now self.old.scene.delay_box.now self.old.known self.old }
         ensures { HasTried self.old self.new }
     {
         members_are_assignments();
         let _delay_box = self.scene.delay_box.len();
-        let ticks = match end {
-            End::Latest => *latest.ticks(),
-            End::Earliest => latest.earliest(),
-        };
-        self.scene.lay(&mut self.tried, &ticks, end, &self.soon);
+        self.scene
+            .lay(&mut self.tried, &laid.ticks, laid.end, &self.soon);
     }
 
     /// Simulates the schedule that is tried, with ties as the wishes say, and keeps a record of it where its
@@ -190,5 +212,16 @@ impl<'a> Wishing<'a> {
             Some(best) => best.latency(),
             None => self.known,
         }
+    }
+}
+
+impl Laid {
+    /// One end of the ticks that wishes leave.
+    fn by(latest: &Latest, end: End) -> Laid {
+        let ticks = match end {
+            End::Latest => *latest.ticks(),
+            End::Earliest => latest.earliest(),
+        };
+        Laid { ticks, end }
     }
 }
