@@ -1,0 +1,23 @@
+//! Traces of real runs: what happened to which message at which group, and when, read from the lines of a log for a
+//! scenario, with times in ticks so fine that each is a whole number.
+#![tactic(auto)]
+
+pub use clock::Clock;
+pub use fault::{Cause, LAST_TIME, MOST_STAMP, TraceFault};
+pub use told::{Entry, Event, Stamp, Told, is_same_event};
+pub use trace::{Trace, trace_of_text};
+
+mod cells;
+mod clock;
+mod columns;
+mod entries;
+mod fault;
+mod fine;
+mod numbering;
+mod objects;
+mod reading;
+mod row;
+#[cfg(test)]
+mod tests;
+mod told;
+mod trace;

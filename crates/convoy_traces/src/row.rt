@@ -1,0 +1,49 @@
+use std::marker::Model;
+
+/// A row: a text for each column, with nothing in it where the line has none.
+#[derive(Drop)]
+pub(crate) struct Row<'a> {
+    pub(crate) event: &'a [u8],
+    pub(crate) message: &'a [u8],
+    pub(crate) group: &'a [u8],
+    pub(crate) from: &'a [u8],
+    pub(crate) time: &'a [u8],
+    pub(crate) stamp: &'a [u8],
+}
+
+impl<'a> Model for Row<'a> {
+    ghost use Rattle.convoy_traces.specs.Rows.{Row};
+
+    ghost Value = { Row };
+
+    ghost view = { λ r. record {
+      event = r.event.now;
+      message = r.message.now;
+      group = r.group.now;
+      from = r.from.now;
+      time = r.time.now;
+      stamp = r.stamp.now;
+    } };
+}
+
+ghost use Rattle.std.specs.Prelude.{◌≡◌};
+ghost use Rattle.csv.specs.Records.{fields_of};
+ghost use Rattle.convoy_traces.specs.Rows.{row_of_cells};
+
+use super::cells::cell_by;
+use super::columns::Columns;
+use csv::ByteRecord;
+
+/// The row of a line of cells.
+pub(crate) fn row_of_cells<'a>(columns: &Columns, cells: &'a ByteRecord) -> Row<'a>
+    ensures { result ≡ row_of_cells columns.now (fields_of cells.now) }
+{
+    Row {
+        event: cell_by(cells, columns.event),
+        message: cell_by(cells, columns.message),
+        group: cell_by(cells, columns.group),
+        from: cell_by(cells, columns.from),
+        time: cell_by(cells, columns.time),
+        stamp: cell_by(cells, columns.stamp),
+    }
+}
