@@ -1,0 +1,5 @@
+pub mod Fine
+pub mod Lengths
+pub mod Compared
+pub mod Judged
+pub mod Outside

@@ -1,0 +1,41 @@
+-- The test of whether a scenario is told in fine ticks.
+use Rattle.std.specs.Prelude.{ℕ, ◌+◌, ◌*◌, ◌==◌, nat_le, Bool, true, false, ◌&&◌, List, [], ◌∷◌, length}
+use Rattle.std.specs.List.{list_all}
+use Rattle.std.specs.Str.{bytes_eq}
+use Rattle.convoy_draft.specs.declared.time.Time.{Time}
+use Rattle.convoy_draft.specs.declared.time.Time.TheVariants.{Ticks, Real}
+use Rattle.convoy_scenario.specs.Scenario.{Message, Scenario, is_same_sender}
+use Rattle.convoy_packets.specs.declared.packet.Packet.{Packet}
+use Rattle.convoy_packets.specs.Packets.{packets_of}
+use Rattle.convoy_packets.specs.Assignment.{range_of}
+
+-- time is real
+abbrev pub is_real : Time → Bool
+is_real Ticks = false
+is_real Real = true
+
+-- a message is told in fine ticks: it is issued at none but times at which it may be
+abbrev pub is_finer_message : ℕ → Message → Message → Bool
+is_finer_message factor message finer =
+    is_same_sender finer.sender message.sender && bytes_eq finer.destinations message.destinations
+    && nat_le (factor * message.at) finer.at && nat_le (finer.at + finer.longest_wait) (factor * (message.at + message.longest_wait))
+
+abbrev pub are_finer_messages : ℕ → List Message → List Message → Bool
+are_finer_messages factor [] [] = true
+are_finer_messages factor [] (other ∷ others) = false
+are_finer_messages factor (message ∷ messages) [] = false
+are_finer_messages factor (message ∷ messages) (other ∷ others) = is_finer_message factor message other && are_finer_messages factor messages others
+
+-- a packet may take no time in fine ticks that it may not take in ticks
+abbrev pub has_finer_range : ℕ → Scenario → Scenario → Packet → Bool
+has_finer_range factor scenario finer packet =
+    nat_le (factor * (range_of scenario packet).0) (range_of finer packet).0 && nat_le (range_of finer packet).1 (factor * (range_of scenario packet).1)
+
+-- the test of it
+abbrev pub is_finer : ℕ → Scenario → Scenario → Bool
+is_finer factor scenario finer =
+    is_real finer.time && nat_le 1 factor && (length finer.groups == length scenario.groups)
+    && (length finer.multicasts == length scenario.multicasts)
+    && are_finer_messages factor scenario.multicasts finer.multicasts
+    && list_all (has_finer_range factor scenario finer) (packets_of finer)
+    && (finer.target_message == scenario.target_message) && (finer.target_group == scenario.target_group)

@@ -1,0 +1,100 @@
+//! Worked traces of the base example of docs/PROTOCOL.md, in real time: t is delivered at a at tick 12.
+
+use super::{Departure, Verdict, judge};
+use convoy_scenario::{MessageParts, Scenario, ScenarioParts, Time};
+use convoy_traces::{Clock, Event, trace_of_text};
+use std::alloc::Global;
+use std::test::Fail;
+
+/// Two groups; no packet takes more than 3 ticks. Clients send x to b and t to both at tick 0, and a sends y to both at
+/// tick 6.
+fn base(alloc: Global) -> Result<Scenario, Fail> {
+    let parts = ScenarioParts {
+        time: Time::Real,
+        tick: None,
+        delay: 3,
+        groups: &["a", "b"],
+        links: &[],
+        messages: &[
+            MessageParts {
+                name: "x",
+                sender: None,
+                to: &["b"],
+                at: 0,
+                until: 0,
+            },
+            MessageParts {
+                name: "t",
+                sender: None,
+                to: &["a", "b"],
+                at: 0,
+                until: 0,
+            },
+            MessageParts {
+                name: "y",
+                sender: Some("a"),
+                to: &["a", "b"],
+                at: 6,
+                until: 6,
+            },
+        ],
+        target_message: "t",
+        target_group: "a",
+    };
+    Ok(Scenario::new(alloc, &parts)?)
+}
+
+/// The worst run of the base example, in ticks, up to the deliveries at a.
+const WORST: &str = "event,message,group,from,time,stamp\n\
+    issue,x,,,0,\nissue,t,,,0,\nissue,y,,,6,\n\
+    arrival,x,b,,3,1.b\narrival,t,b,,3,2.b\narrival,t,a,,3,1.a\n\
+    proposal,t,a,b,6,2.b\nproposal,t,b,a,6,1.a\n\
+    arrival,y,a,,6,2.a\narrival,y,b,,9,3.b\n\
+    proposal,y,a,b,12,3.b\nproposal,y,b,a,9,2.a\n\
+    commit,t,a,,6,2.b\ncommit,y,a,,12,3.b\n\
+    delivery,x,b,,3,1.b\ndelivery,t,b,,6,2.b\ndelivery,y,b,,9,3.b\n";
+
+/// What is judged of the worst run with these lines below.
+fn judged(alloc: Global, lines: &str) -> Result<Verdict, Fail> {
+    let scenario = base(alloc)?;
+    let clock = Clock {
+        tick: 1_000_000_000,
+        unit: None,
+    };
+    let mut text = String::from_str(alloc, WORST)?;
+    text.push_str(lines)?;
+    let trace = trace_of_text(alloc, &scenario, clock, text.as_str().as_bytes())?;
+    Ok(judge(alloc, &scenario, &trace)?)
+}
+
+#[test]
+fn worst_run_fits(rt: HostRuntime) -> Result<(), Fail> {
+    let lines = "delivery,t,a,,12,2.b\ndelivery,y,a,,12,3.b\n";
+    let verdict = judged(rt.alloc(), lines)?;
+    assert!(rt; matches!(&verdict, Verdict::Fits(Some(12))));
+    Ok(())
+}
+
+#[test]
+fn run_that_ends_early_fits(rt: HostRuntime) -> Result<(), Fail> {
+    let verdict = judged(rt.alloc(), "")?;
+    assert!(rt; matches!(&verdict, Verdict::Fits(None)));
+    Ok(())
+}
+
+#[test]
+fn delivery_before_a_lesser_stamp_departs(rt: HostRuntime) -> Result<(), Fail> {
+    let lines = "delivery,t,a,,6,2.b\ndelivery,y,a,,12,3.b\n";
+    let verdict = judged(rt.alloc(), lines)?;
+    let departs = match verdict {
+        Verdict::Departs(Departure::Moment(one, moment)) => {
+            one.message == 1
+                && one.time == 6
+                && moment == 12
+                && matches!(&one.event, Event::Delivery(0))
+        }
+        _ => false,
+    };
+    assert!(rt; departs);
+    Ok(())
+}

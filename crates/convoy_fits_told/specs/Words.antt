@@ -1,0 +1,91 @@
+-- The words of a verdict on a trace.
+use Rattle.std.specs.Prelude.{ℕ, ◌-◌, ◌==◌, min, nat_lt, if◌then◌else◌, List, [], ◌∷◌, ◌++◌, codes, Option, Some, None}
+use Rattle.convoy_scenario.specs.Scenario.{Scenario, group_name_at, message_at, window_of}
+use Rattle.convoy_packets.specs.declared.packet.Packet.{Packet}
+use Rattle.convoy_timeline.specs.Explanations.{stamp_text}
+use Rattle.convoy_timeline.specs.PacketLists.{packet_text}
+use Rattle.convoy_traces.specs.declared.told.Event.{Event}
+use Rattle.convoy_traces.specs.declared.told.Event.TheVariants.{Issue, Arrival, Proposal, Commit, Delivery}
+use Rattle.convoy_fits.specs.declared.departure.Departure.{Departure}
+use Rattle.convoy_fits.specs.declared.departure.Departure.TheVariants as departures
+use Rattle.convoy_fits.specs.declared.departure.Verdict.{Verdict}
+use Rattle.convoy_fits.specs.declared.departure.Verdict.TheVariants as verdicts
+use Rattle.convoy_fits_told.specs.declared.scale.Scale.{Scale}
+use Rattle.convoy_fits_told.specs.Scales.{told_in_fine_ticks, told_in_ticks}
+
+-- a number of fine ticks as it is told: none that are told are greater than that
+abbrev pub told_by : ℕ → ℕ
+told_by ticks = min ticks 4294967295
+
+-- what a message does at a group
+unfoldable pub at_text : Scenario → ℕ → List ℕ → ℕ → List ℕ
+at_text scenario m words g = (message_at scenario m).name ++ (words ++ group_name_at scenario g)
+
+-- what happens
+unfoldable pub event_text : Scenario → ℕ → Event → List ℕ
+event_text scenario m Issue = (message_at scenario m).name ++ codes " is issued"
+event_text scenario m (Arrival g) = at_text scenario m (codes " arrives at ") g
+event_text scenario m (Proposal g h) =
+    codes "the proposal of " ++ (group_name_at scenario h ++ (codes " for " ++ at_text scenario m (codes " comes to ") g))
+event_text scenario m (Commit g) = at_text scenario m (codes " is committed at ") g
+event_text scenario m (Delivery g) = at_text scenario m (codes " is delivered at ") g
+
+-- from the first time to the last
+unfoldable pub span_text : Scale → ℕ × ℕ → List ℕ
+span_text scale span = codes "from " ++ (told_in_ticks scale span.0 ++ (codes " to " ++ told_in_ticks scale span.1))
+
+-- a message that is issued at no time at which it may be
+unfoldable pub window_text : Scale → Scenario → ℕ → ℕ → List ℕ
+window_text scale scenario m time =
+    event_text scenario m Issue ++ (codes " at " ++ (told_in_fine_ticks scale time ++ (codes ": it may be " ++ span_text scale (window_of (message_at scenario m)))))
+
+-- how long a packet may take, in fine ticks: what a group sends to itself takes no time
+unfoldable pub range_text : Scale → ℕ → ℕ → List ℕ
+range_text scale least most =
+    if most == 0 then codes "it takes no time"
+    else codes "it may take from " ++ (told_in_fine_ticks scale (told_by least) ++ (codes " to " ++ told_in_fine_ticks scale (told_by most)))
+
+-- a packet that comes before it is sent
+unfoldable pub early_text : Scale → Scenario → Packet → ℕ → ℕ → List ℕ
+early_text scale scenario packet sent came =
+    packet_text scenario packet ++ (codes " is sent at " ++ (told_in_fine_ticks scale sent ++ (codes " and comes at " ++ told_in_fine_ticks scale came)))
+
+-- a packet that takes longer than it may, or less long
+unfoldable pub taken_text : Scale → Scenario → Packet → ℕ → ℕ → ℕ → List ℕ
+taken_text scale scenario packet time least most =
+    packet_text scenario packet ++ (codes " takes " ++ (told_in_fine_ticks scale time ++ (codes ": " ++ range_text scale least most)))
+
+-- what happens at another time
+unfoldable pub moment_text : Scale → Scenario → ℕ → Event → ℕ → ℕ → List ℕ
+moment_text scale scenario m event time moment =
+    event_text scenario m event
+    ++ (codes " at " ++ (told_in_fine_ticks scale time ++ (codes ": by the protocol at " ++ told_in_fine_ticks scale (told_by moment))))
+
+-- what happens with another stamp
+unfoldable pub other_stamp_text : Scale → Scenario → ℕ → Event → ℕ → List ℕ → List ℕ
+other_stamp_text scale scenario m event time stamp =
+    event_text scenario m event ++ (codes " at " ++ (told_in_fine_ticks scale time ++ (codes " with another stamp: by the protocol it is " ++ stamp)))
+
+-- what does not happen
+unfoldable pub missing_text : Scale → Scenario → ℕ → ℕ → ℕ → List ℕ
+missing_text scale scenario m g tick =
+    at_text scenario m (codes " is not delivered at ") g ++ (codes ": by the protocol at " ++ told_in_fine_ticks scale tick)
+
+-- in what a trace departs
+abbrev pub departure_text : Scale → Scenario → Departure → List ℕ
+departure_text scale scenario (departures.Window m time first last) = window_text scale scenario m time
+departure_text scale scenario (departures.Packet packet sent came least most) =
+    if nat_lt came sent then early_text scale scenario packet sent came else taken_text scale scenario packet (came - sent) least most
+departure_text scale scenario (departures.Moment one moment) = moment_text scale scenario one.message one.event one.time moment
+departure_text scale scenario (departures.Stamp one stamp) = other_stamp_text scale scenario one.message one.event one.time (stamp_text scenario stamp)
+departure_text scale scenario (departures.Missing m g tick) = missing_text scale scenario m g tick
+
+-- the latency of the target, where it is known
+unfoldable pub latency_text : Scale → ℕ → List ℕ
+latency_text scale latency = codes "fits\nlatency " ++ (told_in_fine_ticks scale latency ++ 10 ∷ [])
+
+-- the lines of a verdict
+abbrev pub verdict_text : Scale → Scenario → Verdict → List ℕ
+verdict_text scale scenario (verdicts.Fits None) = codes "fits\n"
+verdict_text scale scenario (verdicts.Fits (Some latency)) = latency_text scale latency
+verdict_text scale scenario (verdicts.Departs departure) = codes "departs: " ++ (departure_text scale scenario departure ++ 10 ∷ [])
