@@ -42,7 +42,7 @@ use Rattle.convoy_best_plan.proofs.Commits.{commit_reached}
 use Rattle.convoy_best_plan.proofs.Lower.{most_most, reached_lower, reached_total}
 
 -- ---- lists
-greatest_both : (f k : ℕ → ℕ) (xs : List ℕ) → ((x : ℕ) → IsIn x xs → f x ≤ k x) → fold max 0 (map f xs) ≤ fold max 0 (map k xs)
+pub greatest_both : (f k : ℕ → ℕ) (xs : List ℕ) → ((x : ℕ) → IsIn x xs → f x ≤ k x) → fold max 0 (map f xs) ≤ fold max 0 (map k xs)
 greatest_both f k xs low =
     greatest_most f (fold max 0 (map k xs)) xs (λ x i. let here = low x i in let most = in_greatest k x xs i in omega (arith, here, most))
 
@@ -68,7 +68,7 @@ below_in groups (x ∷ xs) (suc m) h i = below_in groups xs m h i
 
 module _ (sites_law : RangesAreOfSites) (messages_law : MessagesAreOfPlans) (plan : Plan) (is_plan : IsPlan plan) (placement : List ℕ) (sites : List (Option ℕ))
     (all : Completes placement sites) (scenario : Scenario) (made : scenario_at plan placement ≡ Ok scenario) where
-  origin_at : (from : Origin) (a : ℕ) → origin_site sites from ≡ Some a → site_of placement from ≡ a
+  pub origin_at : (from : Origin) (a : ℕ) → origin_site sites from ≡ Some a → site_of placement from ≡ a
   origin_at (Site s) a e = same_Some s a e
   origin_at (Group h) a e = all h a e
 
@@ -97,13 +97,13 @@ module _ (sites_law : RangesAreOfSites) (messages_law : MessagesAreOfPlans) (pla
         (known_most from g origin known (λ e. both_ways _ away (itself e)))
 
   module _ (m : ℕ) (low : m < length plan.written.messages) where
-    goes_known : (h : ℕ) → IsIn h (message_at scenario m).destinations → h < length plan.written.groups
+    pub goes_known : (h : ℕ) → IsIn h (message_at scenario m).destinations → h < length plan.written.groups
     goes_known h i =
         let of = messages_law plan placement scenario m is_plan made low in
         below_in plan.written.groups plan.written.messages m h
         (subst (λ (goes : List (List ℕ)). IsIn h (get_or goes m [])) is_plan.goes (subst (IsIn h) of.destinations i))
 
-    commit_low : (g : ℕ) → g < length plan.written.groups → commit_known plan scenario sites m g ≤ longest_to_commit scenario m g
+    pub commit_low : (g : ℕ) → g < length plan.written.groups → commit_known plan scenario sites m g ≤ longest_to_commit scenario m g
     commit_low g known =
         let of = messages_law plan placement scenario m is_plan made low in
         greatest_both (way_by plan sites (message_at scenario m).sender (origin_of plan m) g) (longest_by scenario (message_at scenario m).sender g) (message_at scenario m).destinations
@@ -112,7 +112,7 @@ module _ (sites_law : RangesAreOfSites) (messages_law : MessagesAreOfPlans) (pla
         let second = way_low (senders.Group h) (Group h) g refl (goes_known h i) known in
         omega (arith, first, second))
 
-  total_low : length scenario.multicasts ≡ length plan.written.messages → total_known plan scenario sites ≤ total_of scenario
+  pub total_low : length scenario.multicasts ≡ length plan.written.messages → total_known plan scenario sites ≤ total_of scenario
   total_low many =
       sums_low (total_known_at plan scenario sites) (total_at scenario) _
       (λ m i.
@@ -122,14 +122,14 @@ module _ (sites_law : RangesAreOfSites) (messages_law : MessagesAreOfPlans) (pla
       (λ g j. commit_low m low g (goes_known m low g j)))
 
 -- the same of a scenario of the plan that has the same messages
-same_total : (plan : Plan) (sites : List (Option ℕ)) (scenario other : Scenario) → Agree scenario other → total_known plan other sites ≡ total_known plan scenario sites
+pub same_total : (plan : Plan) (sites : List (Option ℕ)) (scenario other : Scenario) → Agree scenario other → total_known plan other sites ≡ total_known plan scenario sites
 same_total plan sites scenario other is = ap (λ (ms : List Message). total_known plan (record other { multicasts = ms }) sites) is.multicasts
 
 same_commit : (plan : Plan) (sites : List (Option ℕ)) (scenario other : Scenario) (m g : ℕ) → Agree scenario other
     → commit_known plan other sites m g ≡ commit_known plan scenario sites m g
 same_commit plan sites scenario other m g is = ap (λ (ms : List Message). commit_known plan (record other { multicasts = ms }) sites m g) is.multicasts
 
-may_too : (scenario other : Scenario) (target : Target) → Agree scenario other → MayBeTarget scenario target → MayBeTarget other target
+pub may_too : (scenario other : Scenario) (target : Target) → Agree scenario other → MayBeTarget scenario target → MayBeTarget other target
 may_too scenario other target is may = record {
   known = subst (λ (ms : List Message). target.message < length ms) (sym is.multicasts) may.known;
   addressed = subst (λ (ms : List Message). is_addressed (get_or ms target.message no_message) target.group ≡ true) (sym is.multicasts) may.addressed;

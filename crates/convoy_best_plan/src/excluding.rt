@@ -210,7 +210,7 @@ fn is_past(
 }
 
 /// Whether a latency of the target exceeds its limit by so much.
-pub(crate) fn is_past_by(target: Target, reach: Floor, total: u64, latency: u32) -> bool
+pub fn is_past_by(target: Target, reach: Floor, total: u64, latency: u32) -> bool
     ensures { IsTrue result → IsAtMost (excess_at reach total) (record { latency = latency; limit = limit_of target }) }
 {
     let limit = target.deadline.unwrap_or(0);

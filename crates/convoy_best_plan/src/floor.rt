@@ -31,7 +31,7 @@ impl Floor {
     }
 
     /// Whether this is lower than another.
-    pub(crate) fn is_lower(self, other: Floor) -> bool
+    pub fn is_lower(self, other: Floor) -> bool
         ensures { result ≡ is_lower self other }
     {
         self.least.is_less(other.least)

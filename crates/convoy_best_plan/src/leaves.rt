@@ -48,7 +48,7 @@ fn is_target_late(
 }
 
 /// How long all messages take to their commits, summed over the groups that they go to, at least as far as that is known.
-fn total_known(plan: &Plan, scenario: &Scenario, sites: &[Option<usize>]) -> u64
+pub fn total_known(plan: &Plan, scenario: &Scenario, sites: &[Option<usize>]) -> u64
     ensures { result ≤ total_known plan.now scenario.now sites.now }
 {
     let mut total = 0u64;
@@ -74,7 +74,7 @@ fn total_known_at(plan: &Plan, scenario: &Scenario, sites: &[Option<usize>], mes
 }
 
 /// How long a message takes to its commit at a group, at least as far as that is known.
-fn commit_known(
+pub fn commit_known(
     plan: &Plan,
     scenario: &Scenario,
     sites: &[Option<usize>],
@@ -136,7 +136,7 @@ fn most_known(plan: &Plan, from: Option<usize>, to: Option<usize>) -> u32
 }
 
 /// The site from which something is sent, if it is known.
-pub(crate) fn origin_site(sites: &[Option<usize>], from: Origin) -> Option<usize>
+pub fn origin_site(sites: &[Option<usize>], from: Origin) -> Option<usize>
     ensures { result ≡ origin_site sites.now from }
 {
     match from {
@@ -146,7 +146,7 @@ pub(crate) fn origin_site(sites: &[Option<usize>], from: Origin) -> Option<usize
 }
 
 /// The site of a group, if it has one.
-pub(crate) fn site_known(sites: &[Option<usize>], group: usize) -> Option<usize>
+pub fn site_known(sites: &[Option<usize>], group: usize) -> Option<usize>
     ensures { result ≡ site_known sites.now group }
 {
     match sites.get(group) {

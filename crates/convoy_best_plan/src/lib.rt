@@ -5,9 +5,16 @@
 
 pub use answering::{placing_answer, plan_answer};
 pub use convoy_tables::Format;
+pub use excluding::is_past_by;
 pub use floor::Floor;
+pub use leaves::{commit_known, origin_site, site_known, total_known};
 pub use planned::Planned;
 pub use planning::best_plan;
+pub use searching::{next_group, placement_of, with_site};
+pub use targets::targets_by;
+pub use telling::{site_words, sites_line};
+pub use totals::total_of;
+pub use visiting::scenario_if_made;
 
 mod answering;
 pub mod choice_laws;

@@ -66,7 +66,7 @@ pub(crate) fn search_below<R: Threads + Wait + Sync, W: Watch + Sync>(
 
 /// The group that gets a site next: one on which a message with a deadline rests, if there is such, since its commits can show
 /// soonest that no such placement is better.
-pub(crate) fn next_group(plan: &Plan, sites: &[Option<usize>]) -> Option<usize>
+pub fn next_group(plan: &Plan, sites: &[Option<usize>]) -> Option<usize>
     ensures some { IfSome result (λ group. slice_get sites.now group ≡ Some None) }
     ensures none { IfNone result (left_of sites.now ≡ 0) }
 {
@@ -118,7 +118,7 @@ fn first_group(sites: &[Option<usize>]) -> Option<usize>
 }
 
 /// The sites with that of one more group.
-fn with_site(
+pub fn with_site(
     alloc: Global,
     sites: &[Option<usize>],
     group: usize,
@@ -164,7 +164,7 @@ fn visit_placed<R: Threads + Wait + Sync, W: Watch + Sync>(
 }
 
 /// The site of each group, where each has one.
-fn placement_of(alloc: Global, sites: &[Option<usize>]) -> Result<Vec<usize>, AllocError>
+pub fn placement_of(alloc: Global, sites: &[Option<usize>]) -> Result<Vec<usize>, AllocError>
     requires { left_of sites.now ≡ 0 }
     ensures { IfOk result (λ placement. map (λ site. Some site) placement.items ≡ sites.now) }
 {

@@ -11,7 +11,7 @@ use std::alloc::{AllocError, Global};
 
 /// The targets of a scenario of the plan that count: where one of them has a deadline those that have one, and else all.
 /// Fails where memory runs out, and else never.
-pub(crate) fn targets_by(
+pub fn targets_by(
     alloc: Global,
     plan: &Plan,
     wanted: Wanted,

@@ -52,7 +52,7 @@ fn lines_above(
 }
 
 /// The line that tells where the groups are.
-fn sites_line(alloc: Global, plan: &Plan, placement: &[usize]) -> Result<String, AllocError>
+pub fn sites_line(alloc: Global, plan: &Plan, placement: &[usize]) -> Result<String, AllocError>
     ensures { IfOk result (λ line. string_bytes line ≡ sites_line plan.now placement.now) }
 {
     let words = site_words(alloc, plan, placement)?;
@@ -60,7 +60,7 @@ fn sites_line(alloc: Global, plan: &Plan, placement: &[usize]) -> Result<String,
 }
 
 /// Each group with its site, as `orders@ireland`, with a space between them.
-fn site_words(alloc: Global, plan: &Plan, placement: &[usize]) -> Result<String, AllocError>
+pub fn site_words(alloc: Global, plan: &Plan, placement: &[usize]) -> Result<String, AllocError>
     ensures { IfOk result (λ words. string_bytes words ≡ site_words plan.now placement.now) }
 {
     let mut words = String::new(alloc);

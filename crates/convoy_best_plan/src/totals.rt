@@ -8,7 +8,7 @@ use convoy_ceiling::longest_to_commit;
 use convoy_scenario::Scenario;
 
 /// The longest from the issue of a message to its commit, summed over all messages and the groups that they go to.
-pub(crate) fn total_of(scenario: &Scenario) -> u64
+pub fn total_of(scenario: &Scenario) -> u64
     ensures { result ≡ total_of scenario.now }
 {
     let mut total = 0u64;

@@ -49,7 +49,7 @@ pub(crate) fn visit<R: Threads + Wait + Sync, W: Watch + Sync>(
 }
 
 /// The scenario of a placement, if there is one. Fails where memory runs out, and else never.
-pub(crate) fn scenario_if_made(
+pub fn scenario_if_made(
     alloc: Global,
     plan: &Plan,
     placement: &[usize],
