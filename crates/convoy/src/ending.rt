@@ -65,6 +65,7 @@ fn status_of_done(done: Done) -> u8
         Done::Beyond => BEYOND,
         Done::Faulty => FAULT,
         Done::Refused(_) | Done::Differs(_) => REFUSED,
+        Done::Departs => DEPARTS,
         Done::NotChecked => NOT_CHECKED,
     }
 }
@@ -87,3 +88,6 @@ const BEYOND: u8 = 5;
 
 /// The status of a certificate that is not checked, since that takes more steps than may be taken.
 const NOT_CHECKED: u8 = 6;
+
+/// The status of a trace that is no run of its scenario.
+const DEPARTS: u8 = 7;

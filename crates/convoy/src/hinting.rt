@@ -7,6 +7,7 @@ use super::kept::KeptWriter;
 use super::kind_hints::{hint_for_kinds, hint_for_shared};
 use super::sweep_hints::hint_for_sweep;
 use super::table_hints::hint_for_table;
+use super::trace_hints::{hint_for_long_trace, hint_for_trace};
 use convoy_arguments::{Input, MOST_SECONDS, REJECTED, Verdict, hint_for_words};
 use convoy_commands::{
     Bounds, Done, Fault, Known, LONGEST_JOB, ListFault, MOST_SIMULATIONS, MOST_STEPS, MOST_TICKETS,
@@ -101,9 +102,13 @@ fn text_of(task: &Task) -> &'static str {
         | Task::Listing { .. }
         | Task::Sweep { .. }
         | Task::Curve { .. } => "a scenario",
-        Task::Plan { .. } | Task::Placing { .. } => "a plan",
+        Task::Plan { .. }
+        | Task::Placing { .. }
+        | Task::PlanCeiling { .. }
+        | Task::CeilingPlacing { .. } => "a plan",
         Task::Kinds { .. } | Task::WorstKind { .. } => "kinds of messages",
         Task::Ranges { .. } => "a table of round trips",
+        Task::Fits { .. } => "a trace",
         Task::Check { .. } | Task::Explain { .. } | Task::Draw { .. } => "a certificate",
         Task::Tell(_) => "a scenario or a certificate",
         Task::BatchTable { .. } => "scenarios",
@@ -162,7 +167,9 @@ fn hint_for<R, W>(alloc: Global, run: &Finished<'_, R, W>) -> Hint {
 
 /// The hint, with which text it is of where a certificate is checked against a scenario.
 fn hint_of_one<R, W>(alloc: Global, run: &Finished<'_, R, W>, hint: Option<String>) -> Hint {
-    if is_of_scenario(run) {
+    if judges_trace(run.verdict) {
+        Ok(hint)
+    } else if is_of_scenario(run) {
         hint_of_text(alloc, CheckedText::Scenario, hint)
     } else if names_scenario(run.verdict) {
         hint_of_text(alloc, CheckedText::Certificate, hint)
@@ -190,6 +197,7 @@ fn hint_for_end<R, W>(alloc: Global, run: &Finished<'_, R, W>, end: &End) -> Hin
             _ => Ok(None),
         },
         Done::Open if !is_batch(run.verdict) => hint_for_open(alloc, run),
+        Done::Departs => Ok(None),
         Done::Fine | Done::Open | Done::Beyond | Done::Faulty => hint_for_answer(alloc, run, end),
     }
 }
@@ -230,6 +238,10 @@ fn hint_for_fault<R, W>(alloc: Global, run: &Finished<'_, R, W>, fault: &Fault) 
         Fault::Reading(ReadFault::TooLong(most)) if is_batch(run.verdict) => {
             Ok(Some(hint_for_long_batch(alloc, *most)?))
         }
+        Fault::Reading(ReadFault::TooLong(most))
+            if judges_trace(run.verdict) && !is_of_scenario(run) => {
+            hint_for_long_trace(alloc, *most).map(Some)
+        }
         Fault::Reading(ReadFault::TooLong(most)) => {
             Ok(Some(hint_for_length(alloc, reader.text(), *most)?))
         }
@@ -240,6 +252,7 @@ fn hint_for_fault<R, W>(alloc: Global, run: &Finished<'_, R, W>, fault: &Fault) 
         Fault::TooManyJobs => Ok(Some(hint_for_jobs(alloc, MOST_JOBS)?)),
         Fault::Sweep(cause) => Ok(Some(hint_for_sweep(alloc, *cause)?)),
         Fault::Ranges(cause) => hint_for_table(alloc, *cause),
+        Fault::Trace(cause) => hint_for_trace(alloc, *cause).map(Some),
         Fault::Scenario(_)
         | Fault::Plan(_)
         | Fault::Schedule(_)
@@ -247,6 +260,11 @@ fn hint_for_fault<R, W>(alloc: Global, run: &Finished<'_, R, W>, fault: &Fault) 
         | Fault::Reading(ReadFault::TooManyReads | ReadFault::Memory)
         | Fault::Memory => Ok(None),
     }
+}
+
+/// Whether the command line asks whether a trace fits a scenario.
+fn judges_trace(verdict: &Verdict) -> bool {
+    matches!(task_of(verdict), Some(Task::Fits { .. }))
 }
 
 /// Whether the command line asks for what kinds of messages are read for.
@@ -261,7 +279,12 @@ fn reads_kinds(verdict: &Verdict) -> bool {
 fn reads_plan(verdict: &Verdict) -> bool {
     matches!(
         task_of(verdict),
-        Some(Task::Plan { .. } | Task::Placing { .. })
+        Some(
+            Task::Plan { .. }
+                | Task::Placing { .. }
+                | Task::PlanCeiling { .. }
+                | Task::CeilingPlacing { .. }
+        )
     )
 }
 
@@ -306,6 +329,8 @@ fn asked_of_task(task: &Task) -> Option<&Asked> {
         | Task::Listing { asked, .. }
         | Task::Plan { asked, .. }
         | Task::Placing { asked, .. }
+        | Task::PlanCeiling { asked, .. }
+        | Task::CeilingPlacing { asked, .. }
         | Task::Sweep { asked, .. }
         | Task::Curve { asked, .. }
         | Task::BatchTable { asked, .. } => Some(asked),
@@ -313,6 +338,7 @@ fn asked_of_task(task: &Task) -> Option<&Asked> {
         | Task::Ranges { .. }
         | Task::Kinds { .. }
         | Task::WorstKind { .. }
+        | Task::Fits { .. }
         | Task::Check { .. }
         | Task::Explain { .. }
         | Task::Draw { .. } => None,

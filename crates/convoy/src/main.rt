@@ -19,6 +19,7 @@ mod obeying;
 mod progress;
 mod sweep_hints;
 mod table_hints;
+mod trace_hints;
 
 use convoy_arguments::{Input, Inputs, MOST_READS, Verdict, judge, judge_bytes};
 use convoy_commands::{Done, Fault, Options, Watch, fault_line};

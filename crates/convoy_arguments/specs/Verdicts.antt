@@ -1,7 +1,7 @@
 -- What a command line asks for.
 use Rattle.std.specs.Prelude.{◌≡◌, ◌⊎◌, ℕ, List, Option, None, IsTrue, string_bytes}
 use Rattle.convoy_tasks.specs.declared.task.Task.{Task}
-use Rattle.convoy_tasks.specs.declared.task.Task.TheVariants.{Check}
+use Rattle.convoy_tasks.specs.declared.task.Task.TheVariants.{Check, Fits}
 use Rattle.convoy_arguments.specs.declared.input.Input.{Input}
 use Rattle.convoy_arguments.specs.declared.limits.TheConstants.{MOST_READS}
 use Rattle.convoy_arguments.specs.declared.verdict.Verdict.{Verdict}
@@ -17,14 +17,15 @@ EndsAtOnce (Batch asked options tells_status input manner) = ⊥
 EndsAtOnce (Text text status is_quiet) = ((status ≡ 0) ⊎ (status ≡ 2)) × IsTrue (are_shown (string_bytes text))
 EndsAtOnce Memory = Unit {0}
 
--- a scenario is wanted only where a certificate is checked: no other task has a second input
-abbrev pub WantsOnlyIfChecks : Task → Option Input → Type 0
-WantsOnlyIfChecks (Check tells unit limit) wanted = Unit {0}
-WantsOnlyIfChecks task wanted = wanted ≡ None
+-- a scenario is wanted only where a certificate is checked, or a trace is judged: no other task has a second input
+abbrev pub WantsOnlyIfJudges : Task → Option Input → Type 0
+WantsOnlyIfJudges (Check tells unit limit) wanted = Unit {0}
+WantsOnlyIfJudges (Fits unit) wanted = Unit {0}
+WantsOnlyIfJudges task wanted = wanted ≡ None
 
 -- a task on its inputs, a batch that may read as often as each task, or an end at once
 abbrev pub IsVerdict : Verdict → Type 0
-IsVerdict (Ask task inputs manner) = WantsOnlyIfChecks task inputs.wanted × AreApart inputs.wanted inputs.text
+IsVerdict (Ask task inputs manner) = WantsOnlyIfJudges task inputs.wanted × AreApart inputs.wanted inputs.text
 IsVerdict (Batch asked options tells_status input manner) = options.most_reads ≡ MOST_READS
 IsVerdict (Text text status is_quiet) = EndsAtOnce (Text text status is_quiet)
 IsVerdict Memory = Unit {0}

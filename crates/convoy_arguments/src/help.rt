@@ -34,11 +34,12 @@ finds the greatest latency and tells why it is so late, and
   convoy analyse scenario.toml | convoy draw > run.svg
 draws it.
 
-Each command reads one text, and `check --scenario` a scenario besides: the file
+Each command reads one text, and `check --scenario` and `fits` a scenario besides: the file
 that is named after it, or standard input where none is, or where its name is `-`.
 That is a scenario, as TOML. The commands `check`, `explain` and `draw` read a
 certificate, which `analyse` writes; `simulate`, `timeline`, `packets` and
-`scenario` read either; `plan` reads a plan, as TOML, and `ranges` a table, as CSV.
+`scenario` read either; `plan` reads a plan, as TOML, `ranges` a table, as CSV, and
+`fits` a trace.
 The answer goes to standard output. Without a command word the command is `first`,
 and reads standard input.";
 
@@ -75,7 +76,8 @@ Exit status:
   5  a deadline that is not kept: `within` of a message, or `--at-most`; of `batch`
      only with `--status` or `--at-most`
   6  a certificate that is not checked, since that takes more steps than `--limit`
-     allows";
+     allows
+  7  a trace that is no run of its scenario";
 
 pub(crate) const ABOUT_FIRST: &str = "Writes the latency under the least delays, and those delays";
 
@@ -184,6 +186,35 @@ it is accepted only if it is of that scenario, and else refused with the line
 'refused 37 scenario differs in KEY'. With
   convoy check certificate --tell
 what was accepted is told below the first line.";
+
+pub(crate) const ABOUT_FITS: &str = "Tells whether a trace of a real run is one of the scenario";
+
+pub(crate) const LONG_ABOUT_FITS: &str = "\
+Reads a scenario, and a trace of what happened in a real run of its messages:
+  convoy fits scenario.toml trace.csv
+A trace is CSV with a line for each event, or JSON with an object in each line:
+  event,message,group,from,time,stamp
+  issue,x,,,0 ms,
+  arrival,x,a,,1.25 ms,1.a
+  proposal,x,b,a,3.5 ms,1.a
+  commit,x,b,,3.5 ms,2.b
+  delivery,x,b,,3.5 ms,2.b
+What the trace does not tell is not judged. It writes 'fits' where some run of the
+scenario does all that is told, in which each packet takes a time of its range and each
+group keeps to the protocol; below it stands the latency of the target in that run,
+where its delivery is told. No such run is later than 'latency' says. Or else it writes
+one line:
+  departs: WORDS
+They tell the first packet that is out of its range, or what the protocol does not do.";
+
+pub(crate) const ABOUT_JUDGED: &str = "\
+The scenario by which the trace is judged, which is read first; `-` is standard input,
+if the trace is in a file";
+
+pub(crate) const ABOUT_TRACE_UNIT: &str = "\
+Of which unit numbers in the trace are that have none, and in which times are told, where
+a tick has a length: `ns`, `us`, `ms` or `s`. Without this option it is the greatest of
+which the scenario's `delay` is a whole number";
 
 pub(crate) const ABOUT_STEPS: &str = "\
 How many steps checking the certificate takes at most: from 1 to 1000000000000.
@@ -433,12 +464,22 @@ for each search by itself, of which there may be thousands.
 
 The exit status is 5 where a deadline is missed in the best choice, else 3 where it is
 not known whether one is kept, or where there is none whether the choice is the best, or
-a search did not end in it.";
+a search did not end in it.
+
+With `--ceiling` the best placement is that with the least ceilings, as `ceiling --all`
+tells them of its scenario: it promises the most for traffic of any number of messages of
+the plan's kinds, whenever they are issued. The groups stay in the order of the plan, on
+which no ceiling depends, nothing is searched, and nothing is left open but whether a
+deadline that is below a ceiling is missed in some traffic: the exit status is then 3.";
 
 pub(crate) const ABOUT_PLACED_TARGETS: &str = "\
 Finds the best placement and order for each message at each group that it goes to;
 where some have a deadline it is the best for these, and tells no others; the text need
 not have a target";
+
+pub(crate) const ABOUT_BY_CEILING: &str = "\
+Finds the placement with the least ceilings in place of latencies: the best one whatever
+traffic of the plan's kinds of messages there is, and tells them";
 
 pub(crate) const ABOUT_WHY_THERE: &str = "\
 Tells below the table why no order is better at that placement: a row for each of some

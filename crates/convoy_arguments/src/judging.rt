@@ -1,5 +1,5 @@
 ghost use Rattle.std.specs.Prelude.{◌≡◌, ◌⊎◌, IfOk};
-ghost use Rattle.convoy_arguments.specs.Verdicts.{EndsAtOnce, IsVerdict, WantsOnlyIfChecks};
+ghost use Rattle.convoy_arguments.specs.Verdicts.{EndsAtOnce, IsVerdict, WantsOnlyIfJudges};
 
 use super::asking::{Unasked, asked_of, curve_of, ranges_of, sweep_of};
 use super::escaping::{are_shown, with_escapes};
@@ -22,6 +22,10 @@ use std::convert::AsStr;
 /// What is told where `check` would read both of its texts from standard input.
 const BOTH_STANDARD: &str =
     "error: the certificate and the scenario cannot both be read from standard input: name a file for one\n";
+
+/// What is told where `fits` would.
+const TRACE_STANDARD: &str =
+    "error: the trace and the scenario cannot both be read from standard input: name a file for one\n";
 
 /// The option for which there are no hints.
 const QUIET: &str = "--quiet";
@@ -195,13 +199,21 @@ fn verdict_for(
     };
     let wanted = wanted_for(alloc, &task, given)?;
     if let (Some(Input::Standard), Input::Standard) = (&wanted, &text) {
-        return Ok(rejected(alloc, BOTH_STANDARD, manner.is_quiet));
+        return Ok(rejected(alloc, both_standard(&task), manner.is_quiet));
     }
     Ok(Verdict::Ask {
         task,
         inputs: Inputs { text, wanted },
         manner,
     })
+}
+
+/// What is told where both texts of a task would be read from standard input.
+fn both_standard(task: &Task) -> &'static str {
+    match task {
+        Task::Fits { .. } => TRACE_STANDARD,
+        _ => BOTH_STANDARD,
+    }
 }
 
 /// The task of the command of that name, of which a value may be none.
@@ -220,21 +232,22 @@ fn task_of(
     }
 }
 
-/// The input of the scenario that a certificate is to be of, where `check` names one; no other task has one.
+/// The input of the scenario that a certificate is to be of, where `check` names one, or by which a trace is judged; no other
+/// task has one.
 fn wanted_for(
     alloc: Global,
     task: &Task,
     given: &ArgMatches<'_>,
 ) -> Result<Option<Input>, AllocError>
-    ensures { IfOk result (WantsOnlyIfChecks task.now) }
+    ensures { IfOk result (WantsOnlyIfJudges task.now) }
 {
     match task {
-        Task::Check { .. } => scenario_in(alloc, given),
+        Task::Check { .. } | Task::Fits { .. } => scenario_in(alloc, given),
         _ => Ok(None),
     }
 }
 
-/// The input that `--scenario` names, if it is given.
+/// The input of the scenario that is named, if one is.
 fn scenario_in(alloc: Global, given: &ArgMatches<'_>) -> Result<Option<Input>, AllocError> {
     match given.get_str("scenario") {
         Some(name) => Ok(Some(Input::of(alloc, Some(name))?)),
@@ -269,6 +282,9 @@ fn task_for(
         "packets" => Ok(Task::Tell(Telling::Packets)),
         "scenario" => Ok(Task::Tell(Telling::Toml)),
         "check" | "explain" | "draw" => Ok(certificate_task_for(name, given)),
+        "fits" => Ok(Task::Fits {
+            unit: unit_of(given),
+        }),
         "ceiling" => ceiling_for(alloc, given, asked),
         "report" => Ok(Task::Report {
             asked,
@@ -374,8 +390,25 @@ fn order_for(given: &ArgMatches<'_>, asked: Asked) -> Task {
     }
 }
 
+/// What `plan` asks for by ceilings: the scenario of the best placement, or a table.
+fn plan_ceiling_for(given: &ArgMatches<'_>, asked: Asked) -> Task {
+    let wanted = wanted_of(given);
+    if given.get_flag("scenario") {
+        return Task::CeilingPlacing { wanted, asked };
+    }
+    Task::PlanCeiling {
+        format: format_of(given),
+        wanted,
+        asked,
+        unit: unit_of(given),
+    }
+}
+
 /// What `plan` asks for: the scenario of the best placement with its groups in the best order, or a table.
 fn plan_for(given: &ArgMatches<'_>, asked: Asked) -> Task {
+    if given.get_flag("ceiling") {
+        return plan_ceiling_for(given, asked);
+    }
     let wanted = wanted_of(given);
     if given.get_flag("scenario") {
         return Task::Placing {

@@ -1,6 +1,6 @@
 //! The command line as `clap` is told of it.
 
-use super::help::{ABOUT, ABOUT_FILE, ABOUT_QUIET, AFTER, LONG_ABOUT};
+use super::help::{ABOUT, ABOUT_FILE, ABOUT_JUDGED, ABOUT_QUIET, AFTER, LONG_ABOUT};
 use super::settings::{COMMANDS, Company, Listed, Setting, Value};
 use clap::{Arg, ArgAction, Command};
 use std::alloc::{AllocError, Global};
@@ -34,12 +34,23 @@ fn program<'a>(alloc: Global) -> Result<Command<'a>, AllocError> {
 fn command<'a>(alloc: Global, listed: Listed) -> Result<Command<'a>, AllocError> {
     let mut command = Command::new(alloc, listed.name)
         .about(listed.about)
-        .long_about(listed.long_about)
-        .arg(file_argument(alloc))?;
+        .long_about(listed.long_about);
+    if listed.reads_scenario() {
+        command = command.arg(scenario_argument(alloc))?;
+    }
+    command = command.arg(file_argument(alloc))?;
     for setting in listed.settings {
         command = command.arg(argument(alloc, *setting)?)?;
     }
     Ok(command)
+}
+
+/// The file with the scenario by which a text is judged.
+fn scenario_argument<'a>(alloc: Global) -> Arg<'a> {
+    Arg::new(alloc, "scenario")
+        .value_name("SCENARIO")
+        .required(true)
+        .help(ABOUT_JUDGED)
 }
 
 /// The file that is read.

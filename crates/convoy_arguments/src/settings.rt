@@ -3,18 +3,19 @@
 use super::help::{
     ABOUT_ALL, ABOUT_ALL_CHANGES, ABOUT_ALL_DEADLINES, ABOUT_ALL_TARGETS, ABOUT_ANALYSE,
     ABOUT_AT_MOST, ABOUT_BATCH, ABOUT_BATCH_AT_MOST, ABOUT_BATCH_FORMAT, ABOUT_BESIDE,
-    ABOUT_BOUNDS, ABOUT_BUDGET, ABOUT_CEILING, ABOUT_CEILINGS_JOBS, ABOUT_CHECK, ABOUT_DRAW,
-    ABOUT_ENVELOPE, ABOUT_EXPLAIN, ABOUT_FIRST, ABOUT_FORMAT, ABOUT_GROUP, ABOUT_JOBS, ABOUT_KINDS,
-    ABOUT_LATENCY, ABOUT_LEAST, ABOUT_LIMIT, ABOUT_LISTING, ABOUT_MARGIN, ABOUT_OF_CEILING,
-    ABOUT_ORDER, ABOUT_PACKETS, ABOUT_PLACED_TARGETS, ABOUT_PLACING, ABOUT_PLAN, ABOUT_PROGRESS,
-    ABOUT_RANGES, ABOUT_REPORT, ABOUT_SCENARIO, ABOUT_SECONDS, ABOUT_SEEK, ABOUT_SEEK_TRAFFIC,
-    ABOUT_SET, ABOUT_SIMULATE, ABOUT_SPEED, ABOUT_STATUS, ABOUT_STEPS, ABOUT_SURVEY, ABOUT_SWEEP,
-    ABOUT_SWEEP_FORMAT, ABOUT_TARGET, ABOUT_TELL, ABOUT_TICK, ABOUT_TIMELINE, ABOUT_UNIT,
-    ABOUT_WANTED, ABOUT_WHY, ABOUT_WHY_THERE, ABOUT_WITHOUT, ABOUT_WORKERS, LONG_ABOUT_ANALYSE,
-    LONG_ABOUT_BATCH, LONG_ABOUT_BUDGET, LONG_ABOUT_CEILING, LONG_ABOUT_CHECK, LONG_ABOUT_DRAW,
-    LONG_ABOUT_EXPLAIN, LONG_ABOUT_FIRST, LONG_ABOUT_LATENCY, LONG_ABOUT_ORDER, LONG_ABOUT_PACKETS,
-    LONG_ABOUT_PLAN, LONG_ABOUT_RANGES, LONG_ABOUT_REPORT, LONG_ABOUT_SCENARIO,
-    LONG_ABOUT_SIMULATE, LONG_ABOUT_SURVEY, LONG_ABOUT_SWEEP, LONG_ABOUT_TIMELINE,
+    ABOUT_BOUNDS, ABOUT_BUDGET, ABOUT_BY_CEILING, ABOUT_CEILING, ABOUT_CEILINGS_JOBS, ABOUT_CHECK,
+    ABOUT_DRAW, ABOUT_ENVELOPE, ABOUT_EXPLAIN, ABOUT_FIRST, ABOUT_FITS, ABOUT_FORMAT, ABOUT_GROUP,
+    ABOUT_JOBS, ABOUT_KINDS, ABOUT_LATENCY, ABOUT_LEAST, ABOUT_LIMIT, ABOUT_LISTING, ABOUT_MARGIN,
+    ABOUT_OF_CEILING, ABOUT_ORDER, ABOUT_PACKETS, ABOUT_PLACED_TARGETS, ABOUT_PLACING, ABOUT_PLAN,
+    ABOUT_PROGRESS, ABOUT_RANGES, ABOUT_REPORT, ABOUT_SCENARIO, ABOUT_SECONDS, ABOUT_SEEK,
+    ABOUT_SEEK_TRAFFIC, ABOUT_SET, ABOUT_SIMULATE, ABOUT_SPEED, ABOUT_STATUS, ABOUT_STEPS,
+    ABOUT_SURVEY, ABOUT_SWEEP, ABOUT_SWEEP_FORMAT, ABOUT_TARGET, ABOUT_TELL, ABOUT_TICK,
+    ABOUT_TIMELINE, ABOUT_TRACE_UNIT, ABOUT_UNIT, ABOUT_WANTED, ABOUT_WHY, ABOUT_WHY_THERE,
+    ABOUT_WITHOUT, ABOUT_WORKERS, LONG_ABOUT_ANALYSE, LONG_ABOUT_BATCH, LONG_ABOUT_BUDGET,
+    LONG_ABOUT_CEILING, LONG_ABOUT_CHECK, LONG_ABOUT_DRAW, LONG_ABOUT_EXPLAIN, LONG_ABOUT_FIRST,
+    LONG_ABOUT_FITS, LONG_ABOUT_LATENCY, LONG_ABOUT_ORDER, LONG_ABOUT_PACKETS, LONG_ABOUT_PLAN,
+    LONG_ABOUT_RANGES, LONG_ABOUT_REPORT, LONG_ABOUT_SCENARIO, LONG_ABOUT_SIMULATE,
+    LONG_ABOUT_SURVEY, LONG_ABOUT_SWEEP, LONG_ABOUT_TIMELINE,
 };
 use super::limits::MOST_SECONDS;
 use clap::builder::ValueParser;
@@ -33,6 +34,11 @@ pub(crate) struct Listed {
 }
 
 impl Listed {
+    /// Whether the file of a scenario is named before that of the text.
+    pub(crate) fn reads_scenario(&self) -> bool {
+        self.name == "fits"
+    }
+
     /// The option of that name, where the command has it.
     pub(crate) fn setting(&self, name: &str) -> Option<Setting> {
         self.settings
@@ -122,6 +128,14 @@ const LIMIT: Setting = Setting {
     name: "limit",
     about: ABOUT_LIMIT,
     value: Value::Given("N", ValueParser::Unsigned(1, MOST_TICKETS)),
+    company: Company::Any,
+};
+
+/// The unit of a trace.
+const TRACE_UNIT: Setting = Setting {
+    name: "unit",
+    about: ABOUT_TRACE_UNIT,
+    value: UNITS,
     company: Company::Any,
 };
 
@@ -419,6 +433,16 @@ const PLACING: Setting = Setting {
     company: Company::Without("format"),
 };
 
+/// Whether a placement is to be the best by its ceilings, for which nothing is searched that has options.
+const BY_CEILING: Setting = Setting {
+    name: "ceiling",
+    about: ABOUT_BY_CEILING,
+    value: Value::Absent,
+    company: Company::WithoutAny(&[
+        "why", "limit", "seconds", "seek", "bounds", "workers", "jobs", "progress",
+    ]),
+};
+
 /// By how much a round trip may be longer than the greatest that was measured.
 const MARGIN: Setting = Setting {
     name: "margin",
@@ -492,7 +516,7 @@ const TELL: Setting = Setting {
 };
 
 /// The commands.
-pub(crate) const COMMANDS: [Listed; 19] = [
+pub(crate) const COMMANDS: [Listed; 20] = [
     Listed {
         name: "analyse",
         about: ABOUT_ANALYSE,
@@ -615,6 +639,7 @@ pub(crate) const COMMANDS: [Listed; 19] = [
             BUDGET_TARGET,
             AT_MOST,
             PLACED_TARGETS,
+            BY_CEILING,
             WHY_THERE,
             PLACING,
             LIMIT,
@@ -677,6 +702,12 @@ pub(crate) const COMMANDS: [Listed; 19] = [
         about: ABOUT_CHECK,
         long_about: LONG_ABOUT_CHECK,
         settings: &[STEPS, SCENARIO, TELL, UNIT],
+    },
+    Listed {
+        name: "fits",
+        about: ABOUT_FITS,
+        long_about: LONG_ABOUT_FITS,
+        settings: &[TRACE_UNIT],
     },
     Listed {
         name: "first",

@@ -18,7 +18,10 @@ const OF_SOME: [(&str, &str); 18] = [
     ),
     ("group", "'ceiling'"),
     ("kinds", "'ceiling'"),
-    ("ceiling", "'latency', 'explain', 'survey' and 'budget'"),
+    (
+        "ceiling",
+        "'latency', 'explain', 'survey', 'budget' and 'plan'",
+    ),
     ("without", "'survey'"),
     ("scenario", "'check', 'order' and 'plan'"),
     ("tell", "'check'"),

@@ -23,11 +23,15 @@ use Rattle.convoy_ranges.specs.declared.fault.Cause.{Cause}
 use Rattle.convoy_ranges.specs.declared.fault.Cause.TheVariants as lines
 use Rattle.convoy_ranges.specs.declared.fault.RangesFault.{RangesFault}
 use Rattle.convoy_ranges.specs.declared.fault.RangesFault.TheVariants as ranges
+use Rattle.convoy_traces.specs.declared.fault.Cause.{Cause as Trace-cause}
+use Rattle.convoy_traces.specs.declared.fault.Cause.TheVariants as trace_lines
+use Rattle.convoy_traces.specs.declared.fault.TraceFault.{TraceFault}
+use Rattle.convoy_traces.specs.declared.fault.TraceFault.TheVariants as traces
 use Rattle.convoy_commands.specs.declared.fault.FaultEnding.{FaultEnding}
 use Rattle.convoy_commands.specs.declared.fault.FaultEnding.TheVariants as endings
 use Rattle.convoy_commands.specs.declared.fault.OrderFault.TheVariants as orders
 use Rattle.convoy_commands.specs.declared.fault.Fault.{Fault}
-use Rattle.convoy_commands.specs.declared.fault.Fault.TheVariants.{Scenario, Schedule, Order, Reading, Write, TooManyJobs, Sweep, Ranges, Plan, Kinds, Memory}
+use Rattle.convoy_commands.specs.declared.fault.Fault.TheVariants.{Scenario, Schedule, Order, Reading, Write, TooManyJobs, Sweep, Ranges, Plan, Kinds, Trace, Memory}
 use Rattle.convoy_commands.specs.declared.fault.SweepCause.{SweepCause}
 use Rattle.convoy_commands.specs.declared.fault.SweepCause.TheVariants as sweeps
 
@@ -132,6 +136,29 @@ row_of_kinds (kinds.OverLimit limit) = (3, codes "over limit " ++ kinds_limit_wo
 row_of_kinds kinds.NotOneTo = (51, codes "not one of to and to_any")
 row_of_kinds kinds.DoubleSender = (52, codes "double sender")
 
+-- the number of what is wrong with a line of a trace, and the words before the line's number
+abbrev pub row_of_trace_line : Trace-cause → ℕ × List ℕ
+row_of_trace_line trace_lines.Header = (60, codes "unknown header in line ")
+row_of_trace_line trace_lines.Cells = (60, codes "wrong number of cells in line ")
+row_of_trace_line trace_lines.Text = (60, codes "not UTF-8 in line ")
+row_of_trace_line trace_lines.Object = (60, codes "no object in line ")
+row_of_trace_line trace_lines.Event = (61, codes "unknown event in line ")
+row_of_trace_line trace_lines.Message = (61, codes "unknown message in line ")
+row_of_trace_line trace_lines.Group = (61, codes "unknown group in line ")
+row_of_trace_line trace_lines.Elsewhere = (61, codes "group not addressed in line ")
+row_of_trace_line trace_lines.From = (61, codes "no proposer in line ")
+row_of_trace_line trace_lines.Time = (62, codes "no time in line ")
+row_of_trace_line trace_lines.Stamp = (62, codes "no stamp in line ")
+row_of_trace_line trace_lines.Twice = (62, codes "event told twice in line ")
+row_of_trace_line trace_lines.Late = (63, codes "time over limit in line ")
+
+-- the number and the text of why a text is no trace
+abbrev pub row_of_trace : TraceFault → ℕ × List ℕ
+row_of_trace traces.Empty = (60, codes "empty trace")
+row_of_trace (traces.Line line cause) = ((row_of_trace_line cause).0, (row_of_trace_line cause).1 ++ decimal line)
+row_of_trace (traces.TooFine parts) = (63, codes "times finer than 1/" ++ decimal parts)
+row_of_trace traces.Memory = memory_row
+
 -- a fault's number and its text
 abbrev pub row_of : Fault → ℕ × List ℕ
 row_of (Scenario cause) = row_of_scenario cause
@@ -150,6 +177,7 @@ row_of (Sweep cause) = row_of_sweep cause
 row_of (Ranges cause) = row_of_ranges cause
 row_of (Plan cause) = row_of_plan cause
 row_of (Kinds cause) = row_of_kinds cause
+row_of (Trace cause) = row_of_trace cause
 row_of (Reading reading.Memory) = memory_row
 row_of Memory = memory_row
 
@@ -191,6 +219,11 @@ told_of_plan cause = Plan cause
 abbrev pub told_of_kinds : KindsFault → Fault
 told_of_kinds (kinds.Scenario cause) = told_of cause
 told_of_kinds cause = Kinds cause
+
+-- why a text is no trace, as a command tells it
+abbrev pub told_of_trace : TraceFault → Fault
+told_of_trace traces.Memory = Memory
+told_of_trace cause = Trace cause
 
 -- a fault of a schedule that was given as a list, as a command tells it
 abbrev pub told_of_list : ListFault → Fault

@@ -21,6 +21,8 @@ pub enum Done {
     Refused(Refusal),
     /// The certificate is valid, but its scenario differs from the one that is wanted, first in this part.
     Differs(Part),
+    /// The trace is no run of the scenario: something in it departs from that.
+    Departs,
     /// The certificate was not checked, since that takes more steps than may be taken.
     NotChecked,
 }

@@ -1,5 +1,5 @@
 ghost use Rattle.std.specs.Prelude.{◌≡◌, ◌≤◌, ◌++◌, length, OnOk, OnErr, IfOk, string_bytes};
-ghost use Rattle.convoy_commands.specs.Faults.{IsShortEnding, ending_text, fault_line_of, kinds_limit_word, limit_word, plan_limit_word, row_of, row_of_kinds, row_of_line, row_of_plan, row_of_ranges, row_of_scenario, sweep_word, told_of_order};
+ghost use Rattle.convoy_commands.specs.Faults.{IsShortEnding, ending_text, fault_line_of, kinds_limit_word, limit_word, plan_limit_word, row_of, row_of_kinds, row_of_line, row_of_plan, row_of_ranges, row_of_scenario, row_of_trace, row_of_trace_line, sweep_word, told_of_order};
 
 use convoy_kinds::{KindsFault, KindsLimit};
 use convoy_packets::ListFault;
@@ -7,6 +7,7 @@ use convoy_plans::{PlanFault, PlanLimit};
 use convoy_ranges::{Cause, RangesFault};
 use convoy_scenario::{Limit, ScenarioFault};
 use convoy_streams::ReadFault;
+use convoy_traces::{Cause as TraceCause, TraceFault};
 use std::alloc::{AllocError, Global};
 use thiserror::Error;
 
@@ -48,6 +49,9 @@ pub enum Fault {
     /// The text is that of no kinds of messages.
     #[error(transparent)]
     Kinds(KindsFault),
+    /// The text is no trace of runs of the scenario.
+    #[error(transparent)]
+    Trace(TraceFault),
     /// Memory ran out, which says nothing of the input.
     #[error("out of memory")]
     Memory,
@@ -190,6 +194,20 @@ impl From<KindsFault> for Fault {
     }
 }
 
+impl From<TraceFault> for Fault {
+    ghost use Rattle.std.specs.Prelude.{◌≡◌};
+    ghost use Rattle.convoy_commands.specs.Faults.{told_of_trace};
+
+    ghost from_gives = { λ cause fault. fault ≡ told_of_trace cause };
+
+    fn from(cause: TraceFault) -> Self {
+        match cause {
+            TraceFault::Memory => Fault::Memory,
+            cause => Fault::Trace(cause),
+        }
+    }
+}
+
 impl From<ListFault> for Fault {
     ghost use Rattle.std.specs.Prelude.{◌≡◌};
     ghost use Rattle.convoy_commands.specs.Faults.{told_of_list};
@@ -278,6 +296,7 @@ pub fn fault_row(fault: &Fault) -> (u8, &'static str, FaultEnding)
         Fault::Ranges(cause) => ranges_row(*cause),
         Fault::Plan(cause) => plan_row(*cause),
         Fault::Kinds(cause) => kinds_row(*cause),
+        Fault::Trace(cause) => trace_row(*cause),
         Fault::Memory | Fault::Schedule(ListFault::Memory) | Fault::Reading(ReadFault::Memory) => (
             11,
             "out of memory",
@@ -402,6 +421,50 @@ fn word_of_kinds_limit(limit: KindsLimit) -> &'static str
         KindsLimit::Tables => "tables",
         KindsLimit::Sizes => "to_any",
         KindsLimit::Kinds => "kinds",
+    }
+}
+
+/// The same of a trace.
+fn trace_row(fault: TraceFault) -> (u8, &'static str, FaultEnding)
+    ensures number { result.0 ≡ (row_of_trace fault).0 }
+    ensures text { result.1.now ++ ending_text result.2 ≡ (row_of_trace fault).1 }
+    ensures short { (length result.1.now ≤ 64) × IsShortEnding result.2 }
+{
+    match fault {
+        TraceFault::Empty => (60, "empty trace", NOTHING),
+        TraceFault::Line(line, cause) => {
+            let (number, phrase) = trace_line_row(cause);
+            (number, phrase, FaultEnding::Number(line))
+        }
+        TraceFault::TooFine(parts) => (
+            63,
+            "times finer than 1/",
+            FaultEnding::Number(usize::from(parts)),
+        ),
+        TraceFault::Memory => (11, "out of memory", NOTHING),
+    }
+}
+
+/// The number of what is wrong with a line of a trace, and the phrase before the line's number.
+fn trace_line_row(cause: TraceCause) -> (u8, &'static str)
+    ensures number { result.0 ≡ (row_of_trace_line cause).0 }
+    ensures text { result.1.now ≡ (row_of_trace_line cause).1 }
+    ensures short { length result.1.now ≤ 64 }
+{
+    match cause {
+        TraceCause::Header => (60, "unknown header in line "),
+        TraceCause::Cells => (60, "wrong number of cells in line "),
+        TraceCause::Text => (60, "not UTF-8 in line "),
+        TraceCause::Object => (60, "no object in line "),
+        TraceCause::Event => (61, "unknown event in line "),
+        TraceCause::Message => (61, "unknown message in line "),
+        TraceCause::Group => (61, "unknown group in line "),
+        TraceCause::Elsewhere => (61, "group not addressed in line "),
+        TraceCause::From => (61, "no proposer in line "),
+        TraceCause::Time => (62, "no time in line "),
+        TraceCause::Stamp => (62, "no stamp in line "),
+        TraceCause::Twice => (62, "event told twice in line "),
+        TraceCause::Late => (63, "time over limit in line "),
     }
 }
 

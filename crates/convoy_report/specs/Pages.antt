@@ -5,7 +5,7 @@ use Rattle.convoy_scenario.specs.Scenario.{Scenario, group_name_at, message_at}
 use Rattle.convoy_tables.specs.declared.format.Format.TheVariants.{Html}
 use Rattle.convoy_tables.specs.Formats.{escaped, table_text}
 use Rattle.convoy_commands.specs.declared.done.Done.{Done}
-use Rattle.convoy_commands.specs.declared.done.Done.TheVariants.{Fine, Open, Beyond, Faulty, Refused, Differs, NotChecked}
+use Rattle.convoy_commands.specs.declared.done.Done.TheVariants.{Fine, Open, Beyond, Faulty, Refused, Differs, Departs, NotChecked}
 use Rattle.convoy_commands.specs.Verdicts.{has_deadline}
 use Rattle.convoy_survey.specs.Cells.{table_of}
 use Rattle.convoy_survey.specs.Surveys.{end_of}

@@ -108,6 +108,7 @@ fn accepted(alloc: Global, asking: Asking, found: &[u8]) -> Result<Option<Vec<u8
         | Done::Faulty
         | Done::Refused(_)
         | Done::Differs(_)
+        | Done::Departs
         | Done::NotChecked => Ok(None),
     }
 }

@@ -52,9 +52,10 @@ pub(crate) fn verdict(judged: bool, done: Done) -> &'static str
         (false, Done::Open) => {
             "<p class=\"verdict unknown\">There is no deadline, and a search did not end.</p>\n"
         }
-        (_, Done::Faulty | Done::Refused(_) | Done::Differs(_) | Done::NotChecked) => {
-            "<p class=\"verdict unknown\">Memory ran out for a row of the table below.</p>\n"
-        }
+        (
+            _,
+            Done::Faulty | Done::Refused(_) | Done::Differs(_) | Done::Departs | Done::NotChecked,
+        ) => { "<p class=\"verdict unknown\">Memory ran out for a row of the table below.</p>\n" }
     }
 }
 

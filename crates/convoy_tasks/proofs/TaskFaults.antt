@@ -23,7 +23,7 @@ use Rattle.convoy_commands.specs.declared.telling.Telling.{Telling}
 use Rattle.convoy_commands.specs.Asks.{AskSays}
 use Rattle.convoy_commands.specs.First.{first_text}
 use Rattle.convoy_commands.specs.Inputs.{reply_of_reading, reply_to_form}
-use Rattle.convoy_commands.specs.Faults.{told_of_kinds, told_of_plan, told_of_ranges}
+use Rattle.convoy_commands.specs.Faults.{told_of_kinds, told_of_plan, told_of_ranges, told_of_trace}
 use Rattle.convoy_commands.specs.Ranging.{RangesSay, links_told}
 use Rattle.convoy_commands.specs.Replies.{fine}
 use Rattle.convoy_commands.specs.Searches.{IsFaultyBy}
@@ -46,6 +46,7 @@ use Rattle.convoy_plans.specs.declared.fault.PlanFault.{PlanFault}
 use Rattle.convoy_plans.specs.declared.fault.PlanFault.TheVariants as plans
 use Rattle.convoy_best_order.specs.declared.wanted.Wanted.{Wanted}
 use Rattle.convoy_best_plan.specs.Answers.{PlacingSays, PlanSays}
+use Rattle.convoy_plan_ceilings.specs.Answers.{CeilingPlacingSays, PlanCeilingSays}
 use Rattle.convoy_ranges.specs.Answers.{ranges_text}
 use Rattle.convoy_ranges.specs.declared.asked.RangeRules.{RangeRules}
 use Rattle.convoy_ranges.specs.declared.fault.RangesFault.{RangesFault}
@@ -56,8 +57,11 @@ use Rattle.convoy_sweep.specs.declared.fault.SweepFault.TheVariants as sweeps
 use Rattle.convoy_sweep.specs.declared.kinds.Setting.{Setting}
 use Rattle.convoy_sweep.specs.declared.kinds.Sweep.{Sweep as AskedSweep}
 use Rattle.convoy_tasks.specs.declared.task.Task.{Task}
-use Rattle.convoy_tasks.specs.declared.task.Task.TheVariants.{First, Tell, Check, Explain, Draw, Ceiling, Ceilings, Kinds, WorstKind, Analyse, Latency, Survey, WhatIf, Report, Budget, Order, Listing, Plan, Placing, Ranges, Sweep, Curve, BatchTable}
+use Rattle.convoy_tasks.specs.declared.task.Task.TheVariants.{First, Tell, Check, Explain, Draw, Ceiling, Ceilings, Kinds, WorstKind, Fits, Analyse, Latency, Survey, WhatIf, Report, Budget, Order, Listing, Plan, Placing, PlanCeiling, CeilingPlacing, Ranges, Sweep, Curve, BatchTable}
 use Rattle.convoy_tasks.specs.Abouts.{check_says}
+use Rattle.convoy_traces.specs.declared.fault.TraceFault.{TraceFault}
+use Rattle.convoy_traces.specs.declared.fault.TraceFault.TheVariants as traces
+use Rattle.convoy_tasks.specs.FitsAnswers.{trace_says}
 use Rattle.convoy_tasks.specs.KindAnswers.{AreFaultyKinds}
 use Rattle.convoy_tasks.specs.Tasks.{task_says}
 
@@ -174,6 +178,14 @@ placing_no_device : (wanted : Wanted) (asked : Asked) (settings : Settings) (tex
 placing_no_device wanted asked settings text fault (inl faulty) = rw faulty.told (no_device_in_plan faulty.cause)
 placing_no_device wanted asked settings text fault (inr none) = rw none.told tt
 
+plan_ceiling_no_device : (format : Format) (wanted : Wanted) (asked : Asked) (unit : Option TimeUnit) (text : List ℕ) (fault : Fault) → PlanCeilingSays format wanted asked unit text (Err fault) → IsNoDevice fault
+plan_ceiling_no_device format wanted asked unit text fault (inl faulty) = rw faulty.told (no_device_in_plan faulty.cause)
+plan_ceiling_no_device format wanted asked unit text fault (inr none) = rw none.told tt
+
+ceiling_placing_no_device : (wanted : Wanted) (asked : Asked) (text : List ℕ) (fault : Fault) → CeilingPlacingSays wanted asked text (Err fault) → IsNoDevice fault
+ceiling_placing_no_device wanted asked text fault (inl faulty) = rw faulty.told (no_device_in_plan faulty.cause)
+ceiling_placing_no_device wanted asked text fault (inr none) = rw none.told tt
+
 -- why a text is that of no kinds of messages is no device's fault
 no_device_in_kinds : (cause : KindsFault) → IsNoDevice (told_of_kinds cause)
 no_device_in_kinds (kinds.Scenario cause) = no_device_in_scenario cause
@@ -184,6 +196,17 @@ no_device_in_kinds kinds.DoubleSender = tt
 
 kinds_no_device : (text : List ℕ) (fault : Fault) → AreFaultyKinds text fault → IsNoDevice fault
 kinds_no_device text fault faulty = rw faulty.told (no_device_in_kinds faulty.cause)
+
+-- why a text is no trace is no device's fault
+no_device_in_trace : (cause : TraceFault) → IsNoDevice (told_of_trace cause)
+no_device_in_trace traces.Empty = tt
+no_device_in_trace (traces.Line line cause) = tt
+no_device_in_trace (traces.TooFine parts) = tt
+no_device_in_trace traces.Memory = tt
+
+trace_no_device : (wanted : Option Scenario) (unit : Option TimeUnit) (text : List ℕ) (fault : Fault) → trace_says wanted unit text (Err fault) → IsNoDevice fault
+trace_no_device None unit text fault is = cc
+trace_no_device (Some scenario) unit text fault faulty = rw faulty.told (no_device_in_trace faulty.cause)
 
 pub says_no_device : (task : Task) (wanted : Option Scenario) (text : List ℕ) (fault : Fault) → task_says task wanted text (Err fault) → IsNoDevice fault
 says_no_device (First asked) wanted text fault says = first_no_device asked text fault (fault_of_fine (first_text asked text) fault says)
@@ -198,6 +221,7 @@ says_no_device (Ceiling simulations asked unit) wanted text fault says = search_
 says_no_device (Ceilings format group simulations asked unit) wanted text fault says = ceilings_no_device format asked unit (option_map string_bytes group) text fault says
 says_no_device (Kinds format unit) wanted text fault says = kinds_no_device text fault says
 says_no_device (WorstKind simulations unit) wanted text fault says = kinds_no_device text fault says
+says_no_device (Fits unit) wanted text fault says = trace_no_device wanted unit text fault says
 says_no_device (Analyse asked options) wanted text fault says = search_no_device asked text fault says
 says_no_device (Latency with_ceiling asked options) wanted text fault says = latency_no_device with_ceiling asked options text fault says
 says_no_device (Survey format with_ceilings asked options) wanted text fault says = search_no_device asked text fault says
@@ -209,6 +233,8 @@ says_no_device (Ranges rules) wanted text fault says = ranges_no_device rules te
 says_no_device (Listing wanting asked options) wanted text fault says = search_no_device asked text fault says
 says_no_device (Plan format wanting with_reasons asked options) wanted text fault says = plan_no_device format wanting with_reasons asked options text fault says
 says_no_device (Placing wanting asked options) wanted text fault says = placing_no_device wanting asked options text fault says
+says_no_device (PlanCeiling format wanting asked unit) wanted text fault says = plan_ceiling_no_device format wanting asked unit text fault says
+says_no_device (CeilingPlacing wanting asked) wanted text fault says = ceiling_placing_no_device wanting asked text fault says
 says_no_device (Sweep format sweep envelope asked options) wanted text fault says = sweep_no_device format sweep envelope asked options text fault says
 says_no_device (Curve setting envelope asked options) wanted text fault says = curve_no_device setting envelope asked options text fault says
 says_no_device (BatchTable format asked options tells_status) wanted text fault says = rw says.0 tt

@@ -34,16 +34,19 @@ pub use Rattle.convoy_report.specs.Reports
 pub use Rattle.convoy_budget.specs.Answers as BudgetAnswers
 pub use Rattle.convoy_best_order.specs.Answers as OrderAnswers
 pub use Rattle.convoy_best_plan.specs.Answers as PlanAnswers
+pub use Rattle.convoy_plan_ceilings.specs.Answers as PlanCeilingAnswers
 pub use Rattle.convoy_kinds.specs.Kinds
 pub use Rattle.convoy_kinds.specs.Ceilings as KindCeilings
 pub use Rattle.convoy_kinds.specs.Reading as KindReading
 pub use Rattle.convoy_kinds_told.specs.KindTables
 pub use Rattle.convoy_kinds_told.specs.Worst
+pub use Rattle.convoy_fits_told.specs.Told
 pub use Rattle.convoy_scenario.specs.Differences
 -- what a reader has to believe: what is told of what was accepted, what may be answered for each task, and what its run does at its devices
 pub mod AcceptedLines
 pub mod Abouts
 pub mod KindAnswers
+pub mod FitsAnswers
 pub mod Tasks
 pub mod Runs
 pub mod TaskLaws

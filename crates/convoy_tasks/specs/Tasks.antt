@@ -21,16 +21,18 @@ use Rattle.convoy_report.specs.Reports.{ReportSays}
 use Rattle.convoy_budget.specs.Answers.{BudgetSays}
 use Rattle.convoy_best_order.specs.Answers.{ListingSays, OrderSays}
 use Rattle.convoy_best_plan.specs.Answers.{PlacingSays, PlanSays}
+use Rattle.convoy_plan_ceilings.specs.Answers.{CeilingPlacingSays, PlanCeilingSays}
 use Rattle.convoy_ranges.specs.declared.fault.TheConstants.{MOST_BYTES}
 use Rattle.convoy_sweep.specs.Told.{CurveTold, SweepTold}
 use Rattle.convoy_tasks.specs.declared.batch_table.TheConstants.{LONGEST_BATCH}
 use Rattle.convoy_tasks.specs.BatchTables.{BatchTableSays}
 use Rattle.convoy_tasks.specs.declared.task.Task.{Task}
-use Rattle.convoy_tasks.specs.declared.task.Task.TheVariants.{First, Tell, Check, Explain, Draw, Ceiling, Ceilings, Kinds, WorstKind, Analyse, Latency, Survey, WhatIf, Report, Budget, Order, Listing, Plan, Placing, Ranges, Sweep, Curve, BatchTable}
+use Rattle.convoy_tasks.specs.declared.task.Task.TheVariants.{First, Tell, Check, Explain, Draw, Ceiling, Ceilings, Kinds, WorstKind, Fits, Analyse, Latency, Survey, WhatIf, Report, Budget, Order, Listing, Plan, Placing, PlanCeiling, CeilingPlacing, Ranges, Sweep, Curve, BatchTable}
 use Rattle.convoy_tasks.specs.Abouts.{check_says}
+use Rattle.convoy_tasks.specs.FitsAnswers.{trace_says}
 use Rattle.convoy_tasks.specs.KindAnswers.{KindTableSays, WorstKindSays}
 
--- THE RULE OF A TASK: what may be answered for a text. The scenario that is wanted, if one is, is that of which a certificate has to be; no other task looks at it.
+-- THE RULE OF A TASK: what may be answered for a text. The scenario that is wanted, if one is, is that of which a certificate has to be, or a trace; no other task looks at it.
 abbrev pub task_says : Task → Option Scenario → Rule
 task_says (First asked) wanted = FirstSays asked
 task_says (Tell telling) wanted = TellSays telling
@@ -41,6 +43,7 @@ task_says (Ceiling simulations asked unit) wanted = CeilingSays asked unit
 task_says (Ceilings format group simulations asked unit) wanted = CeilingsSay format asked unit (option_map string_bytes group)
 task_says (Kinds format unit) wanted = KindTableSays format unit
 task_says (WorstKind simulations unit) wanted = WorstKindSays unit
+task_says (Fits unit) wanted = trace_says wanted unit
 task_says (Analyse asked options) wanted = AnalyseSays asked options
 task_says (Latency with_ceiling asked options) wanted = latency_says with_ceiling asked options
 task_says (Survey format with_ceilings asked options) wanted = SurveySays format with_ceilings asked options
@@ -52,11 +55,13 @@ task_says (Ranges rules) wanted = RangesSay rules
 task_says (Listing wanting asked options) wanted = ListingSays wanting asked options
 task_says (Plan format wanting with_reasons asked options) wanted = PlanSays format wanting with_reasons asked options
 task_says (Placing wanting asked options) wanted = PlacingSays wanting asked options
+task_says (PlanCeiling format wanting asked unit) wanted = PlanCeilingSays format wanting asked unit
+task_says (CeilingPlacing wanting asked) wanted = CeilingPlacingSays wanting asked
 task_says (Sweep format sweep envelope asked options) wanted = SweepTold format sweep envelope asked options
 task_says (Curve setting envelope asked options) wanted = CurveTold setting envelope asked options
 task_says (BatchTable format asked options tells_status) wanted = BatchTableSays format asked options
 
--- HOW LONG ITS TEXT MAY BE, in bytes: as long as a certificate's where it may be one, and as long as a job's else
+-- HOW LONG ITS TEXT MAY BE, in bytes: as long as a certificate's where it may be one or is a trace, and as long as a job's else
 abbrev pub longest_for : Task → ℕ
 longest_for (First asked) = LONGEST_JOB
 longest_for (Tell telling) = LONGEST_CERTIFICATE
@@ -67,6 +72,7 @@ longest_for (Ceiling simulations asked unit) = LONGEST_JOB
 longest_for (Ceilings format group simulations asked unit) = LONGEST_JOB
 longest_for (Kinds format unit) = LONGEST_JOB
 longest_for (WorstKind simulations unit) = LONGEST_JOB
+longest_for (Fits unit) = LONGEST_CERTIFICATE
 longest_for (Analyse asked options) = LONGEST_JOB
 longest_for (Latency with_ceiling asked options) = LONGEST_JOB
 longest_for (Survey format with_ceilings asked options) = LONGEST_JOB
@@ -78,6 +84,8 @@ longest_for (Ranges rules) = MOST_BYTES
 longest_for (Listing wanting asked options) = LONGEST_JOB
 longest_for (Plan format wanting with_reasons asked options) = LONGEST_JOB
 longest_for (Placing wanting asked options) = LONGEST_JOB
+longest_for (PlanCeiling format wanting asked unit) = LONGEST_JOB
+longest_for (CeilingPlacing wanting asked) = LONGEST_JOB
 longest_for (Sweep format sweep envelope asked options) = LONGEST_JOB
 longest_for (Curve setting envelope asked options) = LONGEST_JOB
 longest_for (BatchTable format asked options tells_status) = LONGEST_BATCH

@@ -9,6 +9,7 @@ ghost use Rattle.convoy_tasks.specs.Tasks.{NeedsNoSearch, longest_for, task_says
 
 use super::batch_table::{LONGEST_BATCH, batch_table_answer};
 use super::checking::check_answer;
+use super::fits::answer_fits;
 use super::kinds::{answer_kinds, answer_worst_kind};
 use super::task::Task;
 use convoy_best_order::{listing_answer, order_answer};
@@ -18,6 +19,7 @@ use convoy_commands::{
     Answer, Asking, Fault, LONGEST_CERTIFICATE, LONGEST_JOB, Watch, analyse_answer, ask,
     ceiling_answer, explain_with_ceiling, first_answer, latency_answer, ranges_answer, tell,
 };
+use convoy_plan_ceilings::{ceiling_placing_answer, plan_ceiling_answer};
 use convoy_ranges::MOST_BYTES;
 use convoy_report::report_answer;
 use convoy_scenario::{Scenario, TimeUnit};
@@ -31,14 +33,14 @@ use std::sync::Wait;
 use std::thread::Threads;
 
 /// Answers a task for a text: how it ends, what is to be written, and what is known besides. A certificate has to be of
-/// the scenario that is wanted, if one is; no other task looks at that. The rows of a table are made
+/// the scenario that is wanted, if one is, and a trace of a run of that; no other task looks at it. The rows of a table are made
 /// as many at a time as there are watches, and one search alone is watched by the first; [`NoGate`](convoy_branch::NoGate)
 /// is a watch where nobody watches. Who watches counts the seconds that the options give a search.
 ///
 /// The faults are those of a text: `Fault::Scenario` where it is that of no scenario, where none of its groups has the
 /// name that is given, or where a change of it makes none; `Fault::Sweep` where its keys can't be given the values of a
 /// sweep; `Fault::Plan` where it is that of no plan, or of one that has no placement; `Fault::Kinds` where it is that of no
-/// kinds of messages; `Fault::Schedule` and `Fault::Order` for a schedule that is none of it; `Fault::Reading` for a scenario of more than [`LONGEST_JOB`] bytes
+/// kinds of messages; `Fault::Trace` where it is no trace of the scenario; `Fault::Schedule` and `Fault::Order` for a schedule that is none of it; `Fault::Reading` for a scenario of more than [`LONGEST_JOB`] bytes
 /// where a certificate may be longer; `Fault::TooManyJobs`; and `Fault::Memory`.
 pub fn answer<R: Threads + Wait + Sync, W: Watch + Sync>(
     rt: &R,
@@ -194,6 +196,9 @@ pub fn answer<R: Threads + Wait + Sync, W: Watch + Sync>(
         | Task::Ranges { .. }
         | Task::Kinds { .. }
         | Task::WorstKind { .. }
+        | Task::Fits { .. }
+        | Task::PlanCeiling { .. }
+        | Task::CeilingPlacing { .. }
         | Task::Ceiling { .. } => answer_at_once(alloc, task, wanted, text),
     }
 }
@@ -227,6 +232,15 @@ pub(crate) fn answer_at_once(
             asked,
             unit,
         } => ceiling_answer(alloc, *simulations, asked, *unit, text),
+        Task::PlanCeiling {
+            format,
+            wanted,
+            asked,
+            unit,
+        } => plan_ceiling_answer(alloc, *format, *wanted, asked, *unit, text),
+        Task::CeilingPlacing { wanted, asked } => ceiling_placing_answer(
+            alloc, *wanted, asked, text,
+        ),
         Task::Kinds { format, unit } => answer_kinds(alloc, *format, *unit, text),
         Task::WorstKind { simulations, unit } => answer_worst_kind(
             alloc,
@@ -234,6 +248,7 @@ pub(crate) fn answer_at_once(
             *unit,
             text,
         ),
+        Task::Fits { unit } => answer_fits(alloc, wanted, *unit, text),
         Task::Ceilings { .. }
         | Task::Analyse { .. }
         | Task::Latency { .. }
@@ -319,9 +334,11 @@ pub fn longest_of(task: &Task) -> usize
     ensures { result ≡ longest_for task.now }
 {
     match task {
-        Task::Tell(_) | Task::Check { .. } | Task::Explain { .. } | Task::Draw { .. } => {
-            LONGEST_CERTIFICATE
-        }
+        Task::Tell(_)
+        | Task::Check { .. }
+        | Task::Explain { .. }
+        | Task::Draw { .. }
+        | Task::Fits { .. } => LONGEST_CERTIFICATE,
         Task::BatchTable { .. } => LONGEST_BATCH,
         Task::Ranges { .. } => MOST_BYTES,
         Task::First { .. }
@@ -339,6 +356,8 @@ pub fn longest_of(task: &Task) -> usize
         | Task::Listing { .. }
         | Task::Plan { .. }
         | Task::Placing { .. }
+        | Task::PlanCeiling { .. }
+        | Task::CeilingPlacing { .. }
         | Task::Sweep { .. }
         | Task::Curve { .. } => LONGEST_JOB,
     }

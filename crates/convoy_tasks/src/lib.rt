@@ -22,6 +22,7 @@ mod block;
 mod calls;
 mod checking;
 mod ended;
+mod fits;
 mod job_row;
 mod job_table;
 mod kept_jobs;

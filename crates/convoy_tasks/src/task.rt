@@ -61,6 +61,10 @@ pub enum Task {
         simulations: u64,
         unit: Option<TimeUnit>,
     },
+    /// Whether a trace of a real run is one of a run of the scenario that is wanted.
+    Fits {
+        unit: Option<TimeUnit>,
+    },
     /// A certificate of the greatest latency.
     Analyse {
         asked: Asked,
@@ -130,6 +134,19 @@ pub enum Task {
         wanted: Wanted,
         asked: Asked,
         options: Options,
+    },
+    /// The placement of the groups of a plan with the least ceilings for the targets that are wanted, as a table in that format,
+    /// with times in that unit.
+    PlanCeiling {
+        format: Format,
+        wanted: Wanted,
+        asked: Asked,
+        unit: Option<TimeUnit>,
+    },
+    /// The scenario of that placement, as a text.
+    CeilingPlacing {
+        wanted: Wanted,
+        asked: Asked,
     },
     /// The links that a table of round trips gives by these rules.
     Ranges {
