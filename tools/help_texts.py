@@ -11,7 +11,7 @@ from placing import shown
 LISTS = ("Commands:", "Arguments:", "Options:")
 # The first line of an option: a letter, a word, a name for its value and the beginning of its text. Some may be missing.
 OPTION = re.compile(
-    r" {2,6}(?=-)(?P<letter>-\w)?(?:, )? *(?P<word>--[\w-]+)?(?: <(?P<value>[^>]+)>)?(?: {2,}(?P<text>\S.*))?$"
+    r" {2,6}(?=-)(?P<letter>-\w)?(?:, )? *(?P<word>--[\w-]+)?(?: <(?P<value>[^>]+)>|\[=<(?P<optional>[^>]+)>\])?(?: {2,}(?P<text>\S.*))?$"
 )
 CHOICES = re.compile(r"\[possible values: (.*)\]")
 
@@ -21,14 +21,15 @@ class NoHelp(Exception):
 
 
 class Option(typing.NamedTuple):
-    """An option: its letter and its word, the name of its value, what is told of it, and the values that it may have.
-    What it has not is empty."""
+    """An option: its letter and its word, the name of its value, what is told of it, the values that it may have, and the
+    name of a value that may be left out, and stands behind a '='. What it has not is empty."""
 
     letter: str
     word: str
     value: str
     text: str
     choices: tuple
+    optional: str
 
     def names(self):
         """As it may be written."""
@@ -91,7 +92,7 @@ def option_of(lines):
     text = "\n".join([told["text"], *(line.strip() for line in lines[1:])]).strip()
     choices = CHOICES.search(text)
     values = tuple(choices.group(1).split(", ")) if choices else ()
-    return Option(told["letter"], told["word"], told["value"], text, values)
+    return Option(told["letter"], told["word"], told["value"], text, values, told["optional"])
 
 
 def options_of(text):

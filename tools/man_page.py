@@ -81,7 +81,8 @@ def usage(text):
 
 def head(option):
     """How an option is written, as the head of an entry."""
-    return ", ".join(map(bold, option.names())) + (f" {italic(option.value)}" if option.value else "")
+    value = f" {italic(option.value)}" if option.value else f"[={italic(option.optional)}]" if option.optional else ""
+    return ", ".join(map(bold, option.names())) + value
 
 
 def is_taken_by(told, option):

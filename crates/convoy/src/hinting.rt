@@ -104,11 +104,16 @@ fn text_of(task: &Task) -> &'static str {
         | Task::Curve { .. } => "a scenario",
         Task::Plan { .. }
         | Task::Placing { .. }
+        | Task::PlanCertificate { .. }
         | Task::PlanCeiling { .. }
         | Task::CeilingPlacing { .. } => "a plan",
+        Task::CheckPlan { .. } => "a plan and its certificate",
         Task::Kinds { .. } | Task::WorstKind { .. } => "kinds of messages",
         Task::Ranges { .. } => "a table of round trips",
-        Task::Fits { .. } => "a trace",
+        Task::Fits { .. }
+        | Task::TraceRanges { .. }
+        | Task::TraceTable { .. }
+        | Task::Beside { .. } => "a trace",
         Task::Check { .. } | Task::Explain { .. } | Task::Draw { .. } => "a certificate",
         Task::Tell(_) => "a scenario or a certificate",
         Task::BatchTable { .. } => "scenarios",
@@ -197,7 +202,7 @@ fn hint_for_end<R, W>(alloc: Global, run: &Finished<'_, R, W>, end: &End) -> Hin
             _ => Ok(None),
         },
         Done::Open if !is_batch(run.verdict) => hint_for_open(alloc, run),
-        Done::Departs => Ok(None),
+        Done::Departs | Done::PlanRefused => Ok(None),
         Done::Fine | Done::Open | Done::Beyond | Done::Faulty => hint_for_answer(alloc, run, end),
     }
 }
@@ -262,9 +267,17 @@ fn hint_for_fault<R, W>(alloc: Global, run: &Finished<'_, R, W>, fault: &Fault) 
     }
 }
 
-/// Whether the command line asks whether a trace fits a scenario.
+/// Whether the command line asks for what a trace is read for.
 fn judges_trace(verdict: &Verdict) -> bool {
-    matches!(task_of(verdict), Some(Task::Fits { .. }))
+    matches!(
+        task_of(verdict),
+        Some(
+            Task::Fits { .. }
+                | Task::TraceRanges { .. }
+                | Task::TraceTable { .. }
+                | Task::Beside { .. }
+        )
+    )
 }
 
 /// Whether the command line asks for what kinds of messages are read for.
@@ -282,8 +295,10 @@ fn reads_plan(verdict: &Verdict) -> bool {
         Some(
             Task::Plan { .. }
                 | Task::Placing { .. }
+                | Task::PlanCertificate { .. }
                 | Task::PlanCeiling { .. }
                 | Task::CeilingPlacing { .. }
+                | Task::CheckPlan { .. }
         )
     )
 }
@@ -329,6 +344,7 @@ fn asked_of_task(task: &Task) -> Option<&Asked> {
         | Task::Listing { asked, .. }
         | Task::Plan { asked, .. }
         | Task::Placing { asked, .. }
+        | Task::PlanCertificate { asked, .. }
         | Task::PlanCeiling { asked, .. }
         | Task::CeilingPlacing { asked, .. }
         | Task::Sweep { asked, .. }
@@ -336,10 +352,14 @@ fn asked_of_task(task: &Task) -> Option<&Asked> {
         | Task::BatchTable { asked, .. } => Some(asked),
         Task::Tell(_)
         | Task::Ranges { .. }
+        | Task::TraceRanges { .. }
+        | Task::TraceTable { .. }
+        | Task::Beside { .. }
         | Task::Kinds { .. }
         | Task::WorstKind { .. }
         | Task::Fits { .. }
         | Task::Check { .. }
+        | Task::CheckPlan { .. }
         | Task::Explain { .. }
         | Task::Draw { .. } => None,
     }
@@ -468,6 +488,7 @@ fn options_of(verdict: &Verdict) -> Option<&Options> {
         | Task::Listing { options, .. }
         | Task::Plan { options, .. }
         | Task::Placing { options, .. }
+        | Task::PlanCertificate { options, .. }
         | Task::Sweep { options, .. }
         | Task::Curve { options, .. } => Some(options),
         _ => None,

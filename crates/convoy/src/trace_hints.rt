@@ -13,6 +13,10 @@ pub(crate) fn hint_for_trace(alloc: Global, fault: TraceFault) -> Result<String,
         TraceFault::TooFine(parts) => format!(in alloc;
             "hint: drop digits until each time is a whole number of 1/{parts} of a tick, or write the scenario in longer ticks; and count from a start that is near\n"
         ),
+        TraceFault::NoPacket => String::from_str(
+            alloc,
+            "hint: a packet needs two lines: for the issue of a message and its arrival, or for an arrival at the group that proposes and the proposal that comes from there\n",
+        ),
         TraceFault::Memory => String::from_str(alloc, ""),
     }
 }
@@ -49,5 +53,15 @@ fn hint_for_line(cause: Cause) -> &'static str {
             "hint: a trace is of one run: each event of a message is told once at a group\n"
         }
         Cause::Late => "hint: count times from a start that is near, or drop digits\n",
+        Cause::Name => {
+            "hint: a message has any name, and a group one as eu-west_1; of an issue 'group' is the group that sends, or nothing, where a client does\n"
+        }
+        Cause::Early => {
+            "hint: the clocks of the two places differ: set their times right first, or measure round trips\n"
+        }
+        Cause::TooMany => {
+            "hint: name groups of the scenario and not processes: a link is from one group to another\n"
+        }
+        Cause::Wide => "hint: ask for a longer tick, as '--tick 1ms'\n",
     }
 }

@@ -1,11 +1,14 @@
-//! What a command line asks of a scenario beside its text: its target, and a deadline.
+//! What a command line asks beside a text: the target of a scenario, a deadline, and whether all is asked around the
+//! target; and the skew of the clocks of a trace.
 
 use super::escaping::Escaped;
+use super::settings::GREATEST_SPAN;
 use clap::ArgMatches;
+use convoy_fits_told::Skew;
 use convoy_ranges::{RangesAsked, Speed};
 use convoy_scenario::{Duration, Name};
 use convoy_sweep::{Setting, Sweep, UnreadSetting};
-use convoy_toml::{Asked, TargetKey, WrittenTime};
+use convoy_toml::{Around, Asked, TargetKey, WrittenTime};
 use std::alloc::{AllocError, Global};
 
 /// Why the words of a command line ask for nothing.
@@ -29,6 +32,18 @@ const AT_MOST: (&str, &str) = (
     "write a number of ticks, from 1 on, or a duration above 0, as '400 ms'",
 );
 
+/// The same of `--around`.
+const AROUND: (&str, &str) = (
+    "--around[=<SPAN>]",
+    "write a number of ticks, from 1 on, or a duration above 0, as '400 ms'; without a value it is the greatest delay",
+);
+
+/// The same of `--skew`.
+const SKEW: (&str, &str) = (
+    "--skew <TIME>",
+    "write a duration above 0, as '3 ms', or a number of ticks, from 1 on",
+);
+
 /// The same of `--target`.
 const TARGET: (&str, &str) = (
     "--target <MESSAGE@GROUP>",
@@ -44,6 +59,7 @@ pub(crate) fn asked_of(
     Ok(Asked {
         target: target_of(alloc, name, given)?,
         at_most: at_most_of(alloc, given)?,
+        around: around_of(alloc, given)?,
     })
 }
 
@@ -60,7 +76,7 @@ fn target_of(alloc: Global, name: &str, given: &ArgMatches<'_>) -> Result<Target
 fn asks_for_several(name: &str, given: &ArgMatches<'_>) -> bool {
     match name {
         "survey" => !given.get_flag("without"),
-        "budget" | "order" | "plan" => given.get_flag("all"),
+        "budget" | "order" | "plan" | "check" => given.get_flag("all"),
         "ceiling" => given.get_flag("all") || given.get_str("group").is_some(),
         _ => false,
     }
@@ -90,6 +106,39 @@ fn at_most_of(alloc: Global, given: &ArgMatches<'_>) -> Result<Option<WrittenTim
     match time_in(word) {
         Some(time) => Ok(Some(time)),
         None => Err(rejected(alloc, AT_MOST, word)),
+    }
+}
+
+/// How far around its target a scenario is asked about, if it is.
+fn around_of(alloc: Global, given: &ArgMatches<'_>) -> Result<Option<Around>, Unasked> {
+    let Some(word) = given.get_str("around") else {
+        return Ok(None);
+    };
+    if word == GREATEST_SPAN {
+        return Ok(Some(Around::Greatest));
+    }
+    match time_in(word) {
+        Some(span) => Ok(Some(Around::By(span))),
+        None => Err(rejected(alloc, AROUND, word)),
+    }
+}
+
+/// By how much the clocks of a trace may be wrong: by nothing, where it is not given.
+pub(crate) fn skew_of(alloc: Global, given: &ArgMatches<'_>) -> Result<Skew, Unasked> {
+    let Some(word) = given.get_str("skew") else {
+        return Ok(Skew::Ticks(0));
+    };
+    match time_in(word) {
+        Some(time) => Ok(skew_by(time)),
+        None => Err(rejected(alloc, SKEW, word)),
+    }
+}
+
+/// The skew that a time is.
+fn skew_by(time: WrittenTime) -> Skew {
+    match time {
+        WrittenTime::Count(ticks) => Skew::Ticks(ticks.unsigned_abs()),
+        WrittenTime::Lasting(duration) => Skew::Lasting(duration),
     }
 }
 

@@ -34,12 +34,13 @@ finds the greatest latency and tells why it is so late, and
   convoy analyse scenario.toml | convoy draw > run.svg
 draws it.
 
-Each command reads one text, and `check --scenario` and `fits` a scenario besides: the file
-that is named after it, or standard input where none is, or where its name is `-`.
+Each command reads one text, and `check --scenario`, `ranges --check` and `fits` a scenario
+besides: the file that is named after it, or standard input where none is, or where its
+name is `-`.
 That is a scenario, as TOML. The commands `check`, `explain` and `draw` read a
 certificate, which `analyse` writes; `simulate`, `timeline`, `packets` and
-`scenario` read either; `plan` reads a plan, as TOML, `ranges` a table, as CSV, and
-`fits` a trace.
+`scenario` read either; `plan` reads a plan, as TOML, `ranges` a table, as CSV, or a
+trace, and `fits` a trace.
 The answer goes to standard output. Without a command word the command is `first`,
 and reads standard input.";
 
@@ -71,13 +72,14 @@ Exit status:
   2  the command line is rejected
   3  a search that did not end within its limits, or a ceiling that was not attained;
      with a deadline, that it is not known whether it is kept; of `batch` only with
-     `--status` or `--at-most`
-  4  a certificate that is refused
+     `--status` or `--at-most`; or that `plan --certificate` made none
+  4  a certificate that is refused, of a scenario or of a plan
   5  a deadline that is not kept: `within` of a message, or `--at-most`; of `batch`
      only with `--status` or `--at-most`
   6  a certificate that is not checked, since that takes more steps than `--limit`
      allows
-  7  a trace that is no run of its scenario";
+  7  a trace that is no run of its scenario, or with `ranges --check` a packet that
+     was out of its range";
 
 pub(crate) const ABOUT_FIRST: &str = "Writes the latency under the least delays, and those delays";
 
@@ -185,7 +187,12 @@ itself: with
 it is accepted only if it is of that scenario, and else refused with the line
 'refused 37 scenario differs in KEY'. With
   convoy check certificate --tell
-what was accepted is told below the first line.";
+what was accepted is told below the first line.
+
+With
+  convoy check --plan file
+the file has a plan, and below it what `plan --certificate` writes of it. The line
+'accepted' says that no other placement and no other order is better.";
 
 pub(crate) const ABOUT_FITS: &str = "Tells whether a trace of a real run is one of the scenario";
 
@@ -201,11 +208,18 @@ A trace is CSV with a line for each event, or JSON with an object in each line:
   delivery,x,b,,3.5 ms,2.b
 What the trace does not tell is not judged. It writes 'fits' where some run of the
 scenario does all that is told, in which each packet takes a time of its range and each
-group keeps to the protocol; below it stands the latency of the target in that run,
-where its delivery is told. No such run is later than 'latency' says. Or else it writes
-one line:
+group keeps to the protocol; below it stands how many deliveries are told, where some are
+not, and the latency of the target in that run, where its delivery is told. In real time no
+such run is later than 'latency' says. Or else it writes one line:
   departs: WORDS
-They tell the first packet that is out of its range, or what the protocol does not do.";
+They tell the first packet that is out of its range, or what the protocol does not do.
+Each group, and the client of each message, may have a clock of its own:
+  convoy fits --skew \"3 ms\" scenario.toml trace.csv
+judges by clocks that are wrong by 3 ms at most, each by as much all the time.";
+
+pub(crate) const ABOUT_SKEW: &str = "\
+By how much each clock by which the trace is told may be wrong: a duration, as `3 ms`, or
+a number of ticks. Without this option clocks are right";
 
 pub(crate) const ABOUT_JUDGED: &str = "\
 The scenario by which the trace is judged, which is read first; `-` is standard input,
@@ -223,6 +237,10 @@ A step takes about two microseconds at most, and a million of them two seconds";
 pub(crate) const ABOUT_WANTED: &str = "\
 Accepts a certificate only if it is valid and is of the scenario in this file, which
 is read first; `-` is standard input, if the certificate is in a file";
+
+pub(crate) const ABOUT_OF_PLAN: &str = "\
+Reads a plan and, below it, a certificate that no other choice of it is better, as
+`plan --certificate` writes them, and checks that";
 
 pub(crate) const ABOUT_TELL: &str = "\
 Writes below 'accepted N' what was accepted: the target, the greatest delay of a
@@ -269,7 +287,10 @@ Where the target's message has a deadline, by its key `within` or by `--at-most`
 line below tells how that is kept: 'within by N', where N ticks are left and the exit
 status is 0, 'beyond by N', where at least N are too many and it is 5, or 'undecided',
 where neither is known and it is 3.
-  convoy latency --at-most \"400 ms\" scenario.toml";
+  convoy latency --at-most \"400 ms\" scenario.toml
+
+Where links say which share of their packets may be out of range, as by the key
+`outside`, a line tells in at most which share of runs some packet is.";
 
 pub(crate) const ABOUT_CEILING: &str =
     "Writes a latency that no traffic exceeds, and traffic that attains it";
@@ -462,8 +483,15 @@ column SITES tells where each group is. Where nothing is apart, and what stays a
 is fast, all groups at one site are often the best choice. `--limit` and `--seconds` hold
 for each search by itself, of which there may be thousands.
 
-The exit status is 5 where a deadline is missed in the best choice, else 3 where it is
-not known whether one is kept, or where there is none whether the choice is the best, or
+With `--first 3` the best choices at three placements are told, the best first: each is
+the best at a placement that none before it has. Their tables stand one after the other,
+and as `csv` and `json` they are one table, whose column PLACE tells which choice it is.
+
+With `--certificate` a certificate is written that no other choice is better, which
+`check --plan` reads below the plan; or the line 'not proved', where none was found.
+
+The exit status is 5 where a deadline is missed in a choice that is told, else 3 where it
+is not known whether one is kept, or where there is none whether a choice is the best, or
 a search did not end in it.
 
 With `--ceiling` the best placement is that with the least ceilings, as `ceiling --all`
@@ -476,6 +504,10 @@ pub(crate) const ABOUT_PLACED_TARGETS: &str = "\
 Finds the best placement and order for each message at each group that it goes to;
 where some have a deadline it is the best for these, and tells no others; the text need
 not have a target";
+
+pub(crate) const ABOUT_FIRST_PLACEMENTS: &str = "\
+Tells the best choices at so many placements, the best first; with `--scenario` the last
+of them is written";
 
 pub(crate) const ABOUT_BY_CEILING: &str = "\
 Finds the placement with the least ceilings in place of latencies: the best one whatever
@@ -490,7 +522,12 @@ pub(crate) const ABOUT_PLACING: &str = "\
 Writes in place of the table the scenario of the best placement, with its groups in the
 best order, as `scenario` writes one: in ticks, and without deadlines";
 
-pub(crate) const ABOUT_RANGES: &str = "Writes links for a table of round trips";
+pub(crate) const ABOUT_CERTIFYING: &str = "\
+Writes in place of the table a certificate that no other placement and no other order is
+better, which `check --plan` reads";
+
+pub(crate) const ABOUT_RANGES: &str =
+    "Writes links for a table of round trips, or for a trace of real runs";
 
 pub(crate) const LONG_ABOUT_RANGES: &str = "\
 Reads a table of round trips that were measured between places, as CSV, and writes for
@@ -500,10 +537,38 @@ each two of these the table of a link, for a scenario whose groups are there:
 or a matrix, whose first line and first column name the places. A round trip is a number
 of milliseconds, or a duration as '74.2 ms'; the greatest of a pair counts. LEAST is what
 a signal takes for the distance, and MOST the greatest round trip, with the margin, less
-the LEAST of the way back, both in whole ticks. Half of a round trip is no such range.";
+the LEAST of the way back, both in whole ticks. Half of a round trip is no such range.
 
-pub(crate) const ABOUT_MARGIN: &str =
-    "How many percent longer than the greatest that was measured a round trip may be";
+With `--trace` it reads a trace of real runs, as `fits` does, but of messages of any names:
+  event,message,group,from,time
+  issue,t-1234,,,0.5 ms
+  arrival,t-1234,orders,,1.75 ms
+In `group` an issue names the group that sends, or nothing, where a client does. A packet
+of which the trace tells when it was sent and when it came counts for its link. LEAST is
+the least time that one took, with the margin less, and MOST the greatest, with the margin
+more. With `--check` it tells which packets of a trace left the ranges of a scenario; the
+exit status is 7 where one did.";
+
+pub(crate) const ABOUT_MARGIN: &str = "\
+How many percent longer than the greatest that was measured a round trip may be, or a
+packet of a trace, which may also be so much shorter than the least";
+
+pub(crate) const ABOUT_TRACE: &str =
+    "Reads a trace of real runs, and writes the ranges of its packets";
+
+pub(crate) const ABOUT_TRACE_CHECK: &str = "\
+Reads a trace of real runs, and tells for each link how many packets were below the range
+of the scenario in this file, and how many above it; `-` is standard input, if the trace
+is in a file";
+
+pub(crate) const ABOUT_LINKS_FORMAT: &str = "\
+Writes the links of a trace as a table: `text` aligns its columns, `csv` is for other
+programs, and `json` an array with an object for each row";
+
+pub(crate) const ABOUT_LINKS_UNIT: &str = "\
+Of which unit numbers in the trace are that have none: `ns`, `us`, `ms` or `s`. Without
+this option it is `ms`, and with `--check` the greatest of which the scenario's `delay` is
+a whole number";
 
 pub(crate) const ABOUT_SPEED: &str =
     "How fast a signal goes at most: 200 km in a millisecond in fibre, 300 km in air";
@@ -642,6 +707,16 @@ exit status is 0 where all are kept, 5 where one is not, and 3 where neither is 
 pub(crate) const ABOUT_BATCH_AT_MOST: &str = "\
 The deadline of each message that has no key `within`, in ticks or as '400 ms'. The
 exit status tells how deadlines are kept, as with `--status`";
+
+pub(crate) const ABOUT_AROUND: &str = "\
+Lets each other message be issued at any time from a span before the target to twice
+the span after it, whatever the text says: in ticks or as '400 ms', and without a value
+the greatest delay";
+
+pub(crate) const ABOUT_EACH_AROUND: &str = "\
+Lets for each row the other messages be issued at any time from a span before that of
+the row to twice the span after it, whatever the text says: in ticks or as '400 ms', and
+without a value the greatest delay";
 
 pub(crate) const ABOUT_TARGET: &str = "\
 The message and the group of which the latency is asked, as 't@a', in place of those

@@ -1,19 +1,21 @@
 ghost use Rattle.std.specs.Prelude.{◌≡◌, ◌⊎◌, IfOk};
 ghost use Rattle.convoy_arguments.specs.Verdicts.{EndsAtOnce, IsVerdict, WantsOnlyIfJudges};
 
-use super::asking::{Unasked, asked_of, curve_of, ranges_of, sweep_of};
+use super::asking::{Unasked, asked_of, curve_of, ranges_of, skew_of, sweep_of};
 use super::escaping::{are_shown, with_escapes};
 use super::input::{Input, Inputs};
 use super::limits::{HELP, REJECTED};
 use super::manner::Manner;
-use super::options::{format_of, is_image, options_of, simulations_of, steps_of, unit_of};
+use super::options::{
+    first_of, format_of, is_image, options_of, simulations_of, steps_of, unit_of,
+};
 use super::parser::parser;
 use super::tips::without_tip;
 use super::verdict::Verdict;
 use clap::error::ErrorKind;
 use clap::{ArgMatches, Error};
 use convoy_best_order::Wanted;
-use convoy_commands::Telling;
+use convoy_commands::{Telling, TimeUnit};
 use convoy_tasks::Task;
 use convoy_toml::Asked;
 use std::alloc::{AllocError, Global};
@@ -23,7 +25,7 @@ use std::convert::AsStr;
 const BOTH_STANDARD: &str =
     "error: the certificate and the scenario cannot both be read from standard input: name a file for one\n";
 
-/// What is told where `fits` would.
+/// What is told where `fits` would, or `ranges --check`.
 const TRACE_STANDARD: &str =
     "error: the trace and the scenario cannot both be read from standard input: name a file for one\n";
 
@@ -211,7 +213,7 @@ fn verdict_for(
 /// What is told where both texts of a task would be read from standard input.
 fn both_standard(task: &Task) -> &'static str {
     match task {
-        Task::Fits { .. } => TRACE_STANDARD,
+        Task::Fits { .. } | Task::Beside { .. } => TRACE_STANDARD,
         _ => BOTH_STANDARD,
     }
 }
@@ -225,11 +227,39 @@ fn task_of(
 ) -> Result<Task, Unasked> {
     match name {
         "sweep" => sweep_for(alloc, given, asked),
-        "ranges" => Ok(Task::Ranges {
-            rules: ranges_of(alloc, given)?,
+        "ranges" => ranges_for(alloc, given),
+        "fits" => Ok(Task::Fits {
+            skew: skew_of(alloc, given)?,
+            unit: unit_of(given),
         }),
         _ => Ok(task_for(alloc, name, given, asked)?),
     }
+}
+
+/// What is asked of a table of round trips, or of a trace.
+fn ranges_for(alloc: Global, given: &ArgMatches<'_>) -> Result<Task, Unasked> {
+    if given.get_str("check").is_some() {
+        return Ok(Task::Beside {
+            format: format_of(given),
+            unit: unit_of(given),
+        });
+    }
+    if !given.get_flag("trace") {
+        return Ok(Task::Ranges {
+            rules: ranges_of(alloc, given)?,
+        });
+    }
+    let unit = unit_of(given).unwrap_or(TimeUnit::Milliseconds);
+    if given.get_str("format").is_some() {
+        return Ok(Task::TraceTable {
+            format: format_of(given),
+            unit,
+        });
+    }
+    Ok(Task::TraceRanges {
+        rules: ranges_of(alloc, given)?,
+        unit,
+    })
 }
 
 /// The input of the scenario that a certificate is to be of, where `check` names one, or by which a trace is judged; no other
@@ -242,14 +272,19 @@ fn wanted_for(
     ensures { IfOk result (WantsOnlyIfJudges task.now) }
 {
     match task {
-        Task::Check { .. } | Task::Fits { .. } => scenario_in(alloc, given),
+        Task::Check { .. } | Task::Fits { .. } => scenario_in(alloc, given, "scenario"),
+        Task::Beside { .. } => scenario_in(alloc, given, "check"),
         _ => Ok(None),
     }
 }
 
-/// The input of the scenario that is named, if one is.
-fn scenario_in(alloc: Global, given: &ArgMatches<'_>) -> Result<Option<Input>, AllocError> {
-    match given.get_str("scenario") {
+/// The input of the scenario that the option names, if it names one.
+fn scenario_in(
+    alloc: Global,
+    given: &ArgMatches<'_>,
+    option: &str,
+) -> Result<Option<Input>, AllocError> {
+    match given.get_str(option) {
         Some(name) => Ok(Some(Input::of(alloc, Some(name))?)),
         None => Ok(None),
     }
@@ -281,10 +316,11 @@ fn task_for(
         "timeline" => Ok(Task::Tell(Telling::Timeline)),
         "packets" => Ok(Task::Tell(Telling::Packets)),
         "scenario" => Ok(Task::Tell(Telling::Toml)),
-        "check" | "explain" | "draw" => Ok(certificate_task_for(name, given)),
-        "fits" => Ok(Task::Fits {
-            unit: unit_of(given),
+        "check" if given.get_flag("plan") => Ok(Task::CheckPlan {
+            wanted: wanted_of(given),
+            asked,
         }),
+        "check" | "explain" | "draw" => Ok(certificate_task_for(name, given)),
         "ceiling" => ceiling_for(alloc, given, asked),
         "report" => Ok(Task::Report {
             asked,
@@ -404,7 +440,8 @@ fn plan_ceiling_for(given: &ArgMatches<'_>, asked: Asked) -> Task {
     }
 }
 
-/// What `plan` asks for: the scenario of the best placement with its groups in the best order, or a table.
+/// What `plan` asks for: the scenario of the best placement, or of the last of the best ones that are asked for, with its
+/// groups in the best order, a certificate of the best choice, or a table.
 fn plan_for(given: &ArgMatches<'_>, asked: Asked) -> Task {
     if given.get_flag("ceiling") {
         return plan_ceiling_for(given, asked);
@@ -412,6 +449,14 @@ fn plan_for(given: &ArgMatches<'_>, asked: Asked) -> Task {
     let wanted = wanted_of(given);
     if given.get_flag("scenario") {
         return Task::Placing {
+            wanted,
+            first: first_of(given).unwrap_or(1),
+            asked,
+            options: options_of(given),
+        };
+    }
+    if given.get_flag("certificate") {
+        return Task::PlanCertificate {
             wanted,
             asked,
             options: options_of(given),
@@ -421,6 +466,7 @@ fn plan_for(given: &ArgMatches<'_>, asked: Asked) -> Task {
         format: format_of(given),
         wanted,
         with_reasons: given.get_flag("why"),
+        first: first_of(given),
         asked,
         options: options_of(given),
     }

@@ -22,6 +22,14 @@ pub(crate) fn steps_of(given: &ArgMatches<'_>) -> u64 {
     given.get_one("limit").unwrap_or(DEFAULT_STEPS)
 }
 
+/// How many of the best placements are told, where that is given.
+pub(crate) fn first_of(given: &ArgMatches<'_>) -> Option<u16> {
+    match given.get_one::<u64>("first") {
+        Some(first) => u16::try_from(first).ok(),
+        None => None,
+    }
+}
+
 /// How a table is written. `clap` rejects a word that names no format.
 pub(crate) fn format_of(given: &ArgMatches<'_>) -> Format {
     match given.get_str("format") {

@@ -108,5 +108,11 @@ fn valued_argument<'a>(alloc: Global, setting: Setting) -> Arg<'a> {
             .value_name(name)
             .value_parser(parser)
             .default_value(usual),
+        Value::Optional(name, parser, alone) => argument
+            .value_name(name)
+            .value_parser(parser)
+            .num_args(0..=1)
+            .require_equals(true)
+            .default_missing_value(alone),
     }
 }

@@ -2,15 +2,17 @@
 
 use super::help::{
     ABOUT_ALL, ABOUT_ALL_CHANGES, ABOUT_ALL_DEADLINES, ABOUT_ALL_TARGETS, ABOUT_ANALYSE,
-    ABOUT_AT_MOST, ABOUT_BATCH, ABOUT_BATCH_AT_MOST, ABOUT_BATCH_FORMAT, ABOUT_BESIDE,
-    ABOUT_BOUNDS, ABOUT_BUDGET, ABOUT_BY_CEILING, ABOUT_CEILING, ABOUT_CEILINGS_JOBS, ABOUT_CHECK,
-    ABOUT_DRAW, ABOUT_ENVELOPE, ABOUT_EXPLAIN, ABOUT_FIRST, ABOUT_FITS, ABOUT_FORMAT, ABOUT_GROUP,
-    ABOUT_JOBS, ABOUT_KINDS, ABOUT_LATENCY, ABOUT_LEAST, ABOUT_LIMIT, ABOUT_LISTING, ABOUT_MARGIN,
-    ABOUT_OF_CEILING, ABOUT_ORDER, ABOUT_PACKETS, ABOUT_PLACED_TARGETS, ABOUT_PLACING, ABOUT_PLAN,
-    ABOUT_PROGRESS, ABOUT_RANGES, ABOUT_REPORT, ABOUT_SCENARIO, ABOUT_SECONDS, ABOUT_SEEK,
-    ABOUT_SEEK_TRAFFIC, ABOUT_SET, ABOUT_SIMULATE, ABOUT_SPEED, ABOUT_STATUS, ABOUT_STEPS,
-    ABOUT_SURVEY, ABOUT_SWEEP, ABOUT_SWEEP_FORMAT, ABOUT_TARGET, ABOUT_TELL, ABOUT_TICK,
-    ABOUT_TIMELINE, ABOUT_TRACE_UNIT, ABOUT_UNIT, ABOUT_WANTED, ABOUT_WHY, ABOUT_WHY_THERE,
+    ABOUT_AROUND, ABOUT_AT_MOST, ABOUT_BATCH, ABOUT_BATCH_AT_MOST, ABOUT_BATCH_FORMAT,
+    ABOUT_BESIDE, ABOUT_BOUNDS, ABOUT_BUDGET, ABOUT_BY_CEILING, ABOUT_CEILING, ABOUT_CEILINGS_JOBS,
+    ABOUT_CERTIFYING, ABOUT_CHECK, ABOUT_DRAW, ABOUT_EACH_AROUND, ABOUT_ENVELOPE, ABOUT_EXPLAIN,
+    ABOUT_FIRST, ABOUT_FIRST_PLACEMENTS, ABOUT_FITS, ABOUT_FORMAT, ABOUT_GROUP, ABOUT_JOBS,
+    ABOUT_KINDS, ABOUT_LATENCY, ABOUT_LEAST, ABOUT_LIMIT, ABOUT_LINKS_FORMAT, ABOUT_LINKS_UNIT,
+    ABOUT_LISTING, ABOUT_MARGIN, ABOUT_OF_CEILING, ABOUT_OF_PLAN, ABOUT_ORDER, ABOUT_PACKETS,
+    ABOUT_PLACED_TARGETS, ABOUT_PLACING, ABOUT_PLAN, ABOUT_PROGRESS, ABOUT_RANGES, ABOUT_REPORT,
+    ABOUT_SCENARIO, ABOUT_SECONDS, ABOUT_SEEK, ABOUT_SEEK_TRAFFIC, ABOUT_SET, ABOUT_SIMULATE,
+    ABOUT_SKEW, ABOUT_SPEED, ABOUT_STATUS, ABOUT_STEPS, ABOUT_SURVEY, ABOUT_SWEEP,
+    ABOUT_SWEEP_FORMAT, ABOUT_TARGET, ABOUT_TELL, ABOUT_TICK, ABOUT_TIMELINE, ABOUT_TRACE,
+    ABOUT_TRACE_CHECK, ABOUT_TRACE_UNIT, ABOUT_UNIT, ABOUT_WANTED, ABOUT_WHY, ABOUT_WHY_THERE,
     ABOUT_WITHOUT, ABOUT_WORKERS, LONG_ABOUT_ANALYSE, LONG_ABOUT_BATCH, LONG_ABOUT_BUDGET,
     LONG_ABOUT_CEILING, LONG_ABOUT_CHECK, LONG_ABOUT_DRAW, LONG_ABOUT_EXPLAIN, LONG_ABOUT_FIRST,
     LONG_ABOUT_FITS, LONG_ABOUT_LATENCY, LONG_ABOUT_ORDER, LONG_ABOUT_PACKETS, LONG_ABOUT_PLAN,
@@ -83,6 +85,8 @@ pub(crate) enum Value {
     Several(&'static str, ValueParser<'static>),
     /// One as `Given`, with the one that it has where the option is not given.
     Usual(&'static str, ValueParser<'static>, &'static str),
+    /// One as `Given`, but only after `=`, with the one that it has where the option is given without.
+    Optional(&'static str, ValueParser<'static>, &'static str),
 }
 
 /// Beside which other options of its command an option may stand.
@@ -103,11 +107,17 @@ pub(crate) enum Company {
 /// The group of the options by which `ceiling` is asked for several ceilings.
 const TARGETS: &str = "targets";
 
+/// The group of the options by which `ranges` reads a trace.
+const TRACES: &str = "traces";
+
 /// How a table may be written.
 const FORMATS: Value = Value::Given("FORMAT", ValueParser::Names(&["text", "csv", "json"]));
 
 /// The units in which times may be told.
 const UNITS: Value = Value::Given("UNIT", ValueParser::Names(&["ns", "us", "ms", "s"]));
+
+/// The word for the span that is the greatest delay.
+pub(crate) const GREATEST_SPAN: &str = "D";
 
 /// How a target is named.
 const NAMED_TARGET: Value = Value::Given("MESSAGE@GROUP", ValueParser::String);
@@ -136,6 +146,14 @@ const TRACE_UNIT: Setting = Setting {
     name: "unit",
     about: ABOUT_TRACE_UNIT,
     value: UNITS,
+    company: Company::Any,
+};
+
+/// By how much the clocks of a trace may be wrong.
+const SKEW: Setting = Setting {
+    name: "skew",
+    about: ABOUT_SKEW,
+    value: Value::Given("TIME", ValueParser::String),
     company: Company::Any,
 };
 
@@ -337,6 +355,22 @@ const BATCH_AT_MOST: Setting = Setting {
     company: Company::Any,
 };
 
+/// Whether all is asked around the target, and how far.
+const AROUND: Setting = Setting {
+    name: "around",
+    about: ABOUT_AROUND,
+    value: Value::Optional("SPAN", ValueParser::String, GREATEST_SPAN),
+    company: Company::Any,
+};
+
+/// The same of a survey: one of changes is of the issue times of the text.
+const SURVEY_AROUND: Setting = Setting {
+    name: "around",
+    about: ABOUT_EACH_AROUND,
+    value: Value::Optional("SPAN", ValueParser::String, GREATEST_SPAN),
+    company: Company::Without("without"),
+};
+
 /// The target.
 const TARGET: Setting = Setting {
     name: "target",
@@ -417,6 +451,17 @@ const PLACED_TARGETS: Setting = Setting {
     company: Company::Any,
 };
 
+/// How many of the best placements are told at most.
+const MOST_FIRST: u64 = 100;
+
+/// How many of the best placements are told.
+const FIRST_PLACEMENTS: Setting = Setting {
+    name: "first",
+    about: ABOUT_FIRST_PLACEMENTS,
+    value: Value::Given("K", ValueParser::Unsigned(1, MOST_FIRST)),
+    company: Company::Any,
+};
+
 /// Whether the reasons are told why no order is better at the best placement.
 const WHY_THERE: Setting = Setting {
     name: "why",
@@ -433,13 +478,30 @@ const PLACING: Setting = Setting {
     company: Company::Without("format"),
 };
 
+/// Whether a certificate of the best choice is written, in place of a table.
+const CERTIFYING: Setting = Setting {
+    name: "certificate",
+    about: ABOUT_CERTIFYING,
+    value: Value::Absent,
+    company: Company::WithoutAny(&["first", "scenario", "why", "format", "unit"]),
+};
+
 /// Whether a placement is to be the best by its ceilings, for which nothing is searched that has options.
 const BY_CEILING: Setting = Setting {
     name: "ceiling",
     about: ABOUT_BY_CEILING,
     value: Value::Absent,
     company: Company::WithoutAny(&[
-        "why", "limit", "seconds", "seek", "bounds", "workers", "jobs", "progress",
+        "first",
+        "why",
+        "certificate",
+        "limit",
+        "seconds",
+        "seek",
+        "bounds",
+        "workers",
+        "jobs",
+        "progress",
     ]),
 };
 
@@ -448,7 +510,39 @@ const MARGIN: Setting = Setting {
     name: "margin",
     about: ABOUT_MARGIN,
     value: Value::Usual("PERCENT", ValueParser::Unsigned(0, 255), "0"),
-    company: Company::Any,
+    company: Company::Without("check"),
+};
+
+/// Whether a trace is read.
+const TRACE: Setting = Setting {
+    name: "trace",
+    about: ABOUT_TRACE,
+    value: Value::Absent,
+    company: Company::OneOf(TRACES),
+};
+
+/// The scenario beside which the links of a trace are told.
+const CHECK: Setting = Setting {
+    name: "check",
+    about: ABOUT_TRACE_CHECK,
+    value: Value::Given("SCENARIO", ValueParser::String),
+    company: Company::OneOf(TRACES),
+};
+
+/// How the links of a trace are written as a table.
+const LINKS_FORMAT: Setting = Setting {
+    name: "format",
+    about: ABOUT_LINKS_FORMAT,
+    value: FORMATS,
+    company: Company::With(TRACES),
+};
+
+/// The unit of numbers of such a trace that have none.
+const LINKS_UNIT: Setting = Setting {
+    name: "unit",
+    about: ABOUT_LINKS_UNIT,
+    value: UNITS,
+    company: Company::With(TRACES),
 };
 
 /// How fast a signal goes at most.
@@ -456,7 +550,7 @@ const SPEED: Setting = Setting {
     name: "speed",
     about: ABOUT_SPEED,
     value: Value::Usual("WAY", ValueParser::Names(&["fibre", "air"]), "fibre"),
-    company: Company::Any,
+    company: Company::WithoutAny(&["trace", "check"]),
 };
 
 /// The least that a packet takes where no distance is known.
@@ -464,7 +558,7 @@ const LEAST: Setting = Setting {
     name: "least",
     about: ABOUT_LEAST,
     value: Value::Given("DURATION", ValueParser::String),
-    company: Company::Any,
+    company: Company::WithoutAny(&["trace", "check"]),
 };
 
 /// How long a tick lasts.
@@ -472,7 +566,7 @@ const TICK: Setting = Setting {
     name: "tick",
     about: ABOUT_TICK,
     value: Value::Usual("DURATION", ValueParser::String, "0.1 ms"),
-    company: Company::Any,
+    company: Company::Without("check"),
 };
 
 /// Which values a sweep gives a key, once for each key.
@@ -507,6 +601,38 @@ const SCENARIO: Setting = Setting {
     company: Company::Any,
 };
 
+/// Whether the certificate stands below a plan.
+const OF_PLAN: Setting = Setting {
+    name: "plan",
+    about: ABOUT_OF_PLAN,
+    value: Value::Absent,
+    company: Company::WithoutAny(&["limit", "scenario", "tell", "unit"]),
+};
+
+/// The target for which it is checked then.
+const PLAN_TARGET: Setting = Setting {
+    name: "target",
+    about: ABOUT_TARGET,
+    value: NAMED_TARGET,
+    company: Company::With("plan"),
+};
+
+/// Whether it is checked for each message at each group.
+const PLAN_TARGETS: Setting = Setting {
+    name: "all",
+    about: ABOUT_ALL_TARGETS,
+    value: Value::Absent,
+    company: Company::With("plan"),
+};
+
+/// The deadline of messages without one.
+const PLAN_AT_MOST: Setting = Setting {
+    name: "at-most",
+    about: ABOUT_AT_MOST,
+    value: Value::Given("TIME", ValueParser::String),
+    company: Company::With("plan"),
+};
+
 /// Whether what is accepted is told.
 const TELL: Setting = Setting {
     name: "tell",
@@ -522,7 +648,7 @@ pub(crate) const COMMANDS: [Listed; 20] = [
         about: ABOUT_ANALYSE,
         long_about: LONG_ABOUT_ANALYSE,
         settings: &[
-            TARGET, AT_MOST, LIMIT, SECONDS, SEEK, BOUNDS, WORKERS, PROGRESS,
+            TARGET, AROUND, AT_MOST, LIMIT, SECONDS, SEEK, BOUNDS, WORKERS, PROGRESS,
         ],
     },
     Listed {
@@ -542,7 +668,7 @@ pub(crate) const COMMANDS: [Listed; 20] = [
         about: ABOUT_LATENCY,
         long_about: LONG_ABOUT_LATENCY,
         settings: &[
-            TARGET, AT_MOST, LIMIT, SECONDS, SEEK, BOUNDS, WORKERS, PROGRESS, UNIT, CEILING,
+            TARGET, AROUND, AT_MOST, LIMIT, SECONDS, SEEK, BOUNDS, WORKERS, PROGRESS, UNIT, CEILING,
         ],
     },
     Listed {
@@ -577,6 +703,7 @@ pub(crate) const COMMANDS: [Listed; 20] = [
             UNIT,
             SURVEY_CEILING,
             AT_MOST,
+            SURVEY_AROUND,
             WITHOUT,
             CHANGES_TARGET,
             ALL_CHANGES,
@@ -640,8 +767,10 @@ pub(crate) const COMMANDS: [Listed; 20] = [
             AT_MOST,
             PLACED_TARGETS,
             BY_CEILING,
+            FIRST_PLACEMENTS,
             WHY_THERE,
             PLACING,
+            CERTIFYING,
             LIMIT,
             SECONDS,
             SEEK,
@@ -657,7 +786,16 @@ pub(crate) const COMMANDS: [Listed; 20] = [
         name: "ranges",
         about: ABOUT_RANGES,
         long_about: LONG_ABOUT_RANGES,
-        settings: &[MARGIN, SPEED, LEAST, TICK],
+        settings: &[
+            MARGIN,
+            SPEED,
+            LEAST,
+            TICK,
+            TRACE,
+            CHECK,
+            LINKS_FORMAT,
+            LINKS_UNIT,
+        ],
     },
     Listed {
         name: "sweep",
@@ -692,6 +830,7 @@ pub(crate) const COMMANDS: [Listed; 20] = [
             BATCH_JOBS,
             PROGRESS,
             BATCH_AT_MOST,
+            AROUND,
             STATUS,
             BATCH_FORMAT,
             UNIT,
@@ -701,19 +840,28 @@ pub(crate) const COMMANDS: [Listed; 20] = [
         name: "check",
         about: ABOUT_CHECK,
         long_about: LONG_ABOUT_CHECK,
-        settings: &[STEPS, SCENARIO, TELL, UNIT],
+        settings: &[
+            STEPS,
+            SCENARIO,
+            TELL,
+            UNIT,
+            OF_PLAN,
+            PLAN_TARGET,
+            PLAN_TARGETS,
+            PLAN_AT_MOST,
+        ],
     },
     Listed {
         name: "fits",
         about: ABOUT_FITS,
         long_about: LONG_ABOUT_FITS,
-        settings: &[TRACE_UNIT],
+        settings: &[SKEW, TRACE_UNIT],
     },
     Listed {
         name: "first",
         about: ABOUT_FIRST,
         long_about: LONG_ABOUT_FIRST,
-        settings: &[TARGET],
+        settings: &[TARGET, AROUND],
     },
     Listed {
         name: "simulate",

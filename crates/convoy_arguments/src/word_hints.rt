@@ -11,10 +11,10 @@ const WITH_TABLES: [&str; 7] = [
 ];
 
 /// Options of a command or two, and these commands as they are told.
-const OF_SOME: [(&str, &str); 18] = [
+const OF_SOME: [(&str, &str); 25] = [
     (
         "all",
-        "'ceiling', 'budget', 'order', 'plan' and 'survey --without'",
+        "'ceiling', 'budget', 'order', 'plan', 'survey --without' and 'check --plan'",
     ),
     ("group", "'ceiling'"),
     ("kinds", "'ceiling'"),
@@ -26,22 +26,35 @@ const OF_SOME: [(&str, &str); 18] = [
     ("scenario", "'check', 'order' and 'plan'"),
     ("tell", "'check'"),
     ("why", "'order' and 'plan'"),
+    ("first", "'plan'"),
+    ("skew", "'fits'"),
+    ("certificate", "'plan'"),
+    ("plan", "'check', and a command 'plan' reads plans"),
     ("status", "'batch'"),
     ("margin", "'ranges'"),
     ("speed", "'ranges'"),
     ("least", "'ranges', and a scenario has a key 'least'"),
     ("tick", "'ranges', and a scenario has a key 'tick'"),
+    ("trace", "'ranges'"),
+    (
+        "check",
+        "'ranges', and a command 'check' reads certificates",
+    ),
     (
         "at-most",
-        "'latency', 'analyse', 'survey', 'report', 'ceiling', 'budget', 'order', 'plan', 'sweep' and 'batch'",
+        "'latency', 'analyse', 'survey', 'report', 'ceiling', 'budget', 'order', 'plan', 'sweep', 'batch' and 'check --plan'",
+    ),
+    (
+        "around",
+        "'latency', 'analyse', 'survey', 'batch' and 'first'",
     ),
     (
         "target",
-        "'first', 'latency', 'analyse', 'report', 'ceiling', 'budget', 'order', 'plan', 'sweep' and 'survey --without'",
+        "'first', 'latency', 'analyse', 'report', 'ceiling', 'budget', 'order', 'plan', 'sweep', 'survey --without' and 'check --plan'",
     ),
     (
         "unit",
-        "'latency', 'survey', 'report', 'ceiling', 'budget', 'order', 'plan', 'sweep', 'batch', 'explain', 'draw' and 'check'",
+        "'latency', 'survey', 'report', 'ceiling', 'budget', 'order', 'plan', 'sweep', 'batch', 'explain', 'draw', 'check', 'fits' and 'ranges --trace'",
     ),
     (
         "jobs",
@@ -49,7 +62,7 @@ const OF_SOME: [(&str, &str); 18] = [
     ),
     (
         "format",
-        "'survey', 'batch', 'ceiling', 'budget', 'order', 'plan' and 'sweep'",
+        "'survey', 'batch', 'ceiling', 'budget', 'order', 'plan', 'sweep' and 'ranges --trace'",
     ),
 ];
 
@@ -396,7 +409,7 @@ fn has_value(command: &str, option: &str) -> Option<bool> {
         Some(setting) => setting,
         None => setting_named(name)?,
     };
-    Some(!matches!(setting.value, Value::Absent))
+    Some(!matches!(setting.value, Value::Absent | Value::Optional(..)))
 }
 
 /// Whether a word is a command.

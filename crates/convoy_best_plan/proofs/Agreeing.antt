@@ -19,9 +19,10 @@ use Rattle.convoy_toml.specs.Times.{bundles_of, delay_or_greatest, draft_message
 use Rattle.convoy_toml.specs.Ways.{link_along, ways_without_link, with_least}
 use Rattle.convoy_toml.proofs.FinerDrafts.{after_ok, same_ok}
 use Rattle.convoy_plans.specs.Placements.{groups_in, message_in, scenario_at, written_at}
-use Rattle.convoy_plans.specs.Plans.{Plan}
+use Rattle.convoy_plans.specs.Plans.{IsPlan, Plan}
 use Rattle.convoy_best_order.specs.declared.wanted.Wanted.{Wanted}
 use Rattle.convoy_best_order.specs.Targets.{targets_of}
+use Rattle.convoy_best_plan.proofs.SameTicks.{same_tick}
 
 -- ---- the draft of what is written, step by step
 abbrev base_of : WrittenScenario → Option ℕ → Option ℤ → List DraftMessage → List Bundle → List DraftLink → Draft
@@ -113,8 +114,8 @@ drafted w tick draft made =
 
 -- ---- the scenario of a placement
 -- the scenario has these messages of the plan
-pub record IsMade (plan : Plan) (tick : ℕ) (scenario : Scenario) (messages : List DraftMessage) : Type 0 where
-  pub is : draft_messages_of (Some tick) (map (message_in plan) plan.written.messages) ≡ Ok messages
+pub record IsMade (plan : Plan) (tick : Option ℕ) (scenario : Scenario) (messages : List DraftMessage) : Type 0 where
+  pub is : draft_messages_of tick (map (message_in plan) plan.written.messages) ≡ Ok messages
   pub multicasts : scenario.multicasts ≡ map (message_of (groups_in plan)) messages
   pub target_message : scenario.target_message ≡ message_place plan.written.target_message messages
   pub target_group : scenario.target_group ≡ place plan.written.target_group (groups_in plan)
@@ -137,12 +138,13 @@ module _ (plan : Plan) (placement : List ℕ) (scenario : Scenario) (made : scen
   pub well_made : DraftsGiveScenarios → IsScenario scenario
   well_made given = given of_draft.0 scenario of_draft.2
 
-  pub is_made : (tick : ℕ) → plan.tick ≡ Some tick → (messages : List DraftMessage) × IsMade plan tick scenario messages
-  is_made tick long =
-      let ticked : tick_of w ≡ Ok (Some tick) = ap (λ (t : Option ℕ). tick_of (record w { tick = t })) long in
-      let next = after_ok (tick_of w) (after_tick w) of_draft.0 of_draft.1 in
-      let same : next.0 ≡ Some tick = same_ok next.0 (Some tick) (sym next.1 ∙ ticked) in
-      let parts = drafted w (Some tick) of_draft.0 (subst (λ (t : Option ℕ). after_tick w t ≡ Ok of_draft.0) same next.2) in
+  -- the length of its ticks, if they have one
+  pub of_tick : (tick : Option ℕ) × (tick_of w ≡ Ok tick) × (after_tick w tick ≡ Ok of_draft.0)
+  of_tick = after_ok (tick_of w) (after_tick w) of_draft.0 of_draft.1
+
+  pub is_made : (messages : List DraftMessage) × IsMade plan of_tick.0 scenario messages
+  is_made =
+      let parts = drafted w of_tick.0 of_draft.0 of_tick.2 in
       let is = (passed (judge (checks of_draft.0)) (scenario_of of_draft.0) scenario of_draft.2).1 in (
         parts.0,
         record {
@@ -160,12 +162,16 @@ pub record Agree (scenario other : Scenario) : Type 0 where
   pub target_message : other.target_message ≡ scenario.target_message
   pub target_group : other.target_group ≡ scenario.target_group
 
-pub agree : (plan : Plan) (tick : ℕ) (first second : List ℕ) (scenario other : Scenario) → plan.tick ≡ Some tick
+pub agree : (plan : Plan) (first second : List ℕ) (scenario other : Scenario) → IsPlan plan
     → scenario_at plan first ≡ Ok scenario → scenario_at plan second ≡ Ok other → Agree scenario other
-agree plan tick first second scenario other long made other_made =
-    let here = is_made plan first scenario made tick long in
-    let there = is_made plan second other other_made tick long in
-    let same : there.0 ≡ here.0 = same_ok there.0 here.0 (sym there.1.is ∙ here.1.is) in
+agree plan first second scenario other is_plan made other_made =
+    let long = of_tick plan first scenario made in
+    let as_long = of_tick plan second other other_made in
+    let here = is_made plan first scenario made in
+    let there = is_made plan second other other_made in
+    let ticks : as_long.0 ≡ long.0 = same_tick plan second first as_long.0 long.0 is_plan as_long.1 long.1 in
+    let same : there.0 ≡ here.0 =
+    same_ok there.0 here.0 (sym there.1.is ∙ ap (λ (t : Option ℕ). draft_messages_of t (map (message_in plan) plan.written.messages)) ticks ∙ here.1.is) in
     record {
       multicasts = there.1.multicasts ∙ ap (map (message_of (groups_in plan))) same ∙ sym here.1.multicasts;
       target_message = there.1.target_message ∙ ap (message_place plan.written.target_message) same ∙ sym here.1.target_message;
@@ -187,9 +193,9 @@ as_many tick (message ∷ messages) made e =
     let others = after_ok (draft_messages_of tick messages) (λ ms. Ok (here.0 ∷ ms)) made here.2 in
     ap length (sym (same_ok (here.0 ∷ others.0) made others.2)) ∙ ap suc (as_many tick messages others.0 others.1)
 
-pub message_count : (plan : Plan) (tick : ℕ) (placement : List ℕ) (scenario : Scenario) → plan.tick ≡ Some tick → scenario_at plan placement ≡ Ok scenario
+pub message_count : (plan : Plan) (placement : List ℕ) (scenario : Scenario) → scenario_at plan placement ≡ Ok scenario
     → length scenario.multicasts ≡ length plan.written.messages
-message_count plan tick placement scenario long made =
-    let here = is_made plan placement scenario made tick long in
-    ap length here.1.multicasts ∙ length-map here.0 (message_of (groups_in plan)) ∙ as_many (Some tick) (map (message_in plan) plan.written.messages) here.0 here.1.is
+message_count plan placement scenario made =
+    let here = is_made plan placement scenario made in
+    ap length here.1.multicasts ∙ length-map here.0 (message_of (groups_in plan)) ∙ as_many (of_tick plan placement scenario made).0 (map (message_in plan) plan.written.messages) here.0 here.1.is
     ∙ length-map plan.written.messages (message_in plan)

@@ -20,7 +20,7 @@ use Rattle.convoy_best_order.specs.Spreads.{MayStayOpen}
 use Rattle.convoy_best_order.specs.Targets.{MayBeTarget, asked_of}
 use Rattle.convoy_best_plan.specs.declared.floor.Floor.{Floor}
 use Rattle.convoy_best_plan.specs.declared.planned.Planned.{Planned}
-use Rattle.convoy_best_plan.specs.BestPlans.{IsBestPlan, IsChoice, IsExact, IsExceeded, IsNotBelow, IsOpenSomewhere, reach_of, targets_by}
+use Rattle.convoy_best_plan.specs.BestPlans.{IsBestPlan, IsChoice, IsExact, IsExceeded, IsNew, IsNotBelow, IsOpenSomewhere, reach_of, targets_by}
 use Rattle.convoy_best_plan.specs.Floors.{IsNoHigher, excess_at, lower}
 use Rattle.convoy_best_plan.specs.Standings.{IsBestBySome, IsFound, IsOpenByThese, choice_of}
 use Rattle.convoy_best_plan.specs.Totals.{total_of}
@@ -48,8 +48,8 @@ least_kept no_better keeps settings used scenario targets best earlier well may 
     (reached_below past.instance kept.instance past.latency kept.latency same past.reached kept.upper) kept.keeps
 
 -- ---- the choice of a placement
-module _ (wanted : Wanted) (plan : Plan) (placement : Vec ℕ Global) (scenario : Scenario) (targets : Vec Target Global) (best : Best) (is : IsPlacement plan placement.items)
-    (made : scenario_at plan placement.items ≡ Ok scenario) (of_plan : targets.items ≡ targets_by wanted plan scenario) (may : All (MayBeTarget scenario) targets.items) where
+module _ (wanted : Wanted) (plan : Plan) (told : List Planned) (placement : Vec ℕ Global) (scenario : Scenario) (targets : Vec Target Global) (best : Best) (is : IsPlacement plan placement.items)
+    (made : scenario_at plan placement.items ≡ Ok scenario) (of_plan : targets.items ≡ targets_by wanted plan scenario) (may : All (MayBeTarget scenario) targets.items) (new : IsNew told placement.items) where
   abbrev choice : Planned
   choice = choice_of placement scenario targets best
 
@@ -60,24 +60,25 @@ module _ (wanted : Wanted) (plan : Plan) (placement : Vec ℕ Global) (scenario 
   choice_low = let low = (lesser_both best.least best.most).1 in inr (low, omega arith)
 
   -- where it is open whether some order is better
-  choice_open : (settings : Settings) → IsBest settings scenario targets.items best → IsLess best.least best.most → IsOpenSomewhere settings wanted plan
+  choice_open : (settings : Settings) → IsBest settings scenario targets.items best → IsLess best.least best.most → IsOpenSomewhere settings wanted plan told
   choice_open settings found less = record {
     placement = placement.items;
     is = is;
+    new = new;
     scenario = scenario;
     made = made;
     may_be = subst (MayStayOpen settings scenario) of_plan
         (elim found.exact [ inl low ↦ absurd (omega (arith, less, low)) | inr may_be ↦ may_be ]);
   }
 
-  choice_exact : (settings : Settings) → IsOpenByThese settings scenario targets.items best → IsExact settings wanted plan choice
+  choice_exact : (settings : Settings) → IsOpenByThese settings scenario targets.items best → IsExact settings wanted plan told choice
   choice_exact settings by_these = by_order (lesser_both best.least best.most).2 where
-    by_order : IsLess best.least best.most ⊎ IsAtMost best.most (lesser best.least best.most) → IsExact settings wanted plan choice
+    by_order : IsLess best.least best.most ⊎ IsAtMost best.most (lesser best.least best.most) → IsExact settings wanted plan told choice
     by_order (inl less) = inr (choice_open settings (by_these less) less)
     by_order (inr most) = inl (inr (most, omega arith))
 
-  pub choice_found : (settings : Settings) → IsBestBySome scenario targets.items best → IsOpenByThese settings scenario targets.items best → IsFound settings wanted plan choice
-  choice_found settings found by_these = record { used = found.0; choice = choice_is found.0 found.1; floor = choice_low; exact = choice_exact settings by_these }
+  pub choice_found : (settings : Settings) → IsBestBySome scenario targets.items best → IsOpenByThese settings scenario targets.items best → IsFound settings wanted plan told choice
+  choice_found settings found by_these = record { used = found.0; choice = choice_is found.0 found.1; new = new; floor = choice_low; exact = choice_exact settings by_these }
 
   floor_reached : IsAtMost (excess_at choice.floor (total_of scenario)) best.least
   floor_reached =
@@ -93,8 +94,8 @@ module _ (wanted : Wanted) (plan : Plan) (placement : Vec ℕ Global) (scenario 
       (λ target of_target. all-in (MayBeTarget scenario) target targets.items may (in_of_contains target targets.items of_target)) found.1 in_order)))
 
 -- ---- the order searched again
-module _ (no_better : NoOrderIsBetter) (keeps : BestOrderKeeps) (settings : Settings) (wanted : Wanted) (plan : Plan) (planned : Planned) (targets : Vec Target Global) (best : Best)
-    (is : IsFound settings wanted plan planned) (well : IsScenario planned.scenario) (of_plan : targets.items ≡ targets_by wanted plan planned.scenario)
+module _ (no_better : NoOrderIsBetter) (keeps : BestOrderKeeps) (settings : Settings) (wanted : Wanted) (plan : Plan) (told : List Planned) (planned : Planned) (targets : Vec Target Global) (best : Best)
+    (is : IsFound settings wanted plan told planned) (well : IsScenario planned.scenario) (of_plan : targets.items ≡ targets_by wanted plan planned.scenario)
     (may : All (MayBeTarget planned.scenario) targets.items) (found : IsBest settings planned.scenario targets.items best) where
   abbrev again : Planned
   again = choice_of planned.placement planned.scenario targets best
@@ -111,32 +112,33 @@ module _ (no_better : NoOrderIsBetter) (keeps : BestOrderKeeps) (settings : Sett
       (subst (λ (ts : List Target). IsBest is.used planned.scenario ts planned.best) (is.choice.targets ∙ sym of_plan) is.choice.best)
 
   -- it keeps no more than before
-  reach_low : IsNoHigher (reach_of again) (reach_of planned) ⊎ IsOpenSomewhere settings wanted plan
+  reach_low : IsNoHigher (reach_of again) (reach_of planned) ⊎ IsOpenSomewhere settings wanted plan told
   reach_low = by_order (less_or_most best.least best.most) where
-    by_order : IsLess best.least best.most ⊎ IsAtMost best.most best.least → IsNoHigher (reach_of again) (reach_of planned) ⊎ IsOpenSomewhere settings wanted plan
-    by_order (inl less) = inr (choice_open wanted plan planned.placement planned.scenario targets best is.choice.placement is.choice.made of_plan may settings found less)
+    by_order : IsLess best.least best.most ⊎ IsAtMost best.most best.least → IsNoHigher (reach_of again) (reach_of planned) ⊎ IsOpenSomewhere settings wanted plan told
+    by_order (inl less) = inr (choice_open wanted plan told planned.placement planned.scenario targets best is.choice.placement is.choice.made of_plan may is.new settings found less)
     by_order (inr most) =
         let total = is.choice.total in
         inl (inr (most_most best.most best.least planned.best.most most least_low, omega (arith, total)))
 
-  exact_again : IsNoHigher (reach_of again) both ⊎ IsOpenSomewhere settings wanted plan
+  exact_again : IsNoHigher (reach_of again) both ⊎ IsOpenSomewhere settings wanted plan told
   exact_again =
-      under_or (IsOpenSomewhere settings wanted plan) (reach_of again) planned.floor again.floor
-      (after_or (IsOpenSomewhere settings wanted plan) (reach_of again) (reach_of planned) planned.floor reach_low is.exact)
-      (choice_exact wanted plan planned.placement planned.scenario targets best is.choice.placement is.choice.made of_plan may settings (λ less. found))
+      under_or (IsOpenSomewhere settings wanted plan told) (reach_of again) planned.floor again.floor
+      (after_or (IsOpenSomewhere settings wanted plan told) (reach_of again) (reach_of planned) planned.floor reach_low is.exact)
+      (choice_exact wanted plan told planned.placement planned.scenario targets best is.choice.placement is.choice.made of_plan may is.new settings (λ less. found))
 
-  best_again : ((at : List ℕ) → IsPlacement plan at → IsNotBelow wanted plan planned.floor at) → IsBestPlan settings wanted plan (record again { floor = both })
+  best_again : ((at : List ℕ) → IsPlacement plan at → IsNew told at → IsNotBelow wanted plan planned.floor at) → IsBestPlan settings wanted plan told (record again { floor = both })
   best_again passed = record {
     choice = choice_floor settings wanted plan again both
-        (choice_is wanted plan planned.placement planned.scenario targets best is.choice.placement is.choice.made of_plan may settings found);
+        (choice_is wanted plan told planned.placement planned.scenario targets best is.choice.placement is.choice.made of_plan may is.new settings found);
+    new = is.new;
     floor = no_higher_after both again.floor (reach_of again) low.1
-        (choice_low wanted plan planned.placement planned.scenario targets best is.choice.placement is.choice.made of_plan may);
+        (choice_low wanted plan told planned.placement planned.scenario targets best is.choice.placement is.choice.made of_plan may is.new);
     exact = exact_again;
-    none_below = λ at placed. not_below_lower wanted plan both planned.floor at low.0 (passed at placed);
+    none_below = λ at placed fresh. not_below_lower wanted plan both planned.floor at low.0 (passed at placed fresh);
   }
 
   pub settled_best : (next : Planned) (floor : Floor) → next ≡ choice_of planned.placement planned.scenario targets best → floor ≡ lower planned.floor next.floor
-      → ((at : List ℕ) → IsPlacement plan at → IsNotBelow wanted plan planned.floor at) → IsBestPlan settings wanted plan (record next { floor = floor })
+      → ((at : List ℕ) → IsPlacement plan at → IsNew told at → IsNotBelow wanted plan planned.floor at) → IsBestPlan settings wanted plan told (record next { floor = floor })
   settled_best next floor same is_floor passed =
-      subst (λ (f : Floor). IsBestPlan settings wanted plan (record next { floor = f })) (sym is_floor)
-      (subst (λ (p : Planned). IsBestPlan settings wanted plan (record p { floor = lower planned.floor p.floor })) (sym same) (best_again passed))
+      subst (λ (f : Floor). IsBestPlan settings wanted plan told (record next { floor = f })) (sym is_floor)
+      (subst (λ (p : Planned). IsBestPlan settings wanted plan told (record p { floor = lower planned.floor p.floor })) (sym same) (best_again passed))

@@ -91,17 +91,18 @@ choice_floor settings wanted plan planned floor is = record {
   total = is.total;
 }
 
-found_lower : (settings : Settings) (wanted : Wanted) (plan : Plan) (planned : Planned) (floor : Floor) → IsFound settings wanted plan planned
-    → IsNoHigher floor (reach_of planned) → IsNoHigher (reach_of planned) floor ⊎ IsOpenSomewhere settings wanted plan
-    → IsFound settings wanted plan (record planned { floor = floor })
-found_lower settings wanted plan planned floor is low exact = record {
+found_lower : (settings : Settings) (wanted : Wanted) (plan : Plan) (told : List Planned) (planned : Planned) (floor : Floor) → IsFound settings wanted plan told planned
+    → IsNoHigher floor (reach_of planned) → IsNoHigher (reach_of planned) floor ⊎ IsOpenSomewhere settings wanted plan told
+    → IsFound settings wanted plan told (record planned { floor = floor })
+found_lower settings wanted plan told planned floor is low exact = record {
   used = is.used;
   choice = choice_floor is.used wanted plan planned floor is.choice;
+  new = is.new;
   floor = low;
   exact = exact;
 }
 
-module _ (settings : Settings) (wanted : Wanted) (plan : Plan) (planned found : Planned) (is : IsFound settings wanted plan planned) (new : IsFound settings wanted plan found) where
+module _ (settings : Settings) (wanted : Wanted) (plan : Plan) (told : List Planned) (planned found : Planned) (is : IsFound settings wanted plan told planned) (new : IsFound settings wanted plan told found) where
   abbrev both : Floor
   both = lower planned.floor found.floor
 
@@ -109,58 +110,58 @@ module _ (settings : Settings) (wanted : Wanted) (plan : Plan) (planned found : 
   low = lower_both planned.floor found.floor
 
   -- what is no higher than what both keep is no higher than their floors
-  exact_both : (reach : Floor) → IsNoHigher reach (reach_of planned) → IsNoHigher reach (reach_of found) → IsNoHigher reach both ⊎ IsOpenSomewhere settings wanted plan
+  exact_both : (reach : Floor) → IsNoHigher reach (reach_of planned) → IsNoHigher reach (reach_of found) → IsNoHigher reach both ⊎ IsOpenSomewhere settings wanted plan told
   exact_both reach first second =
-      under_or (IsOpenSomewhere settings wanted plan) reach planned.floor found.floor
-      (after_or (IsOpenSomewhere settings wanted plan) reach (reach_of planned) planned.floor (inl first) is.exact)
-      (after_or (IsOpenSomewhere settings wanted plan) reach (reach_of found) found.floor (inl second) new.exact)
+      under_or (IsOpenSomewhere settings wanted plan told) reach planned.floor found.floor
+      (after_or (IsOpenSomewhere settings wanted plan told) reach (reach_of planned) planned.floor (inl first) is.exact)
+      (after_or (IsOpenSomewhere settings wanted plan told) reach (reach_of found) found.floor (inl second) new.exact)
 
   by_test : (test : Bool) → is_lower (reach_of found) (reach_of planned) ≡ test
-      → IsFound settings wanted plan (cond test (record found { floor = both }) (record planned { floor = both }))
+      → IsFound settings wanted plan told (cond test (record found { floor = both }) (record planned { floor = both }))
       × IsNoHigher (cond test (record found { floor = both }) (record planned { floor = both })).floor planned.floor
       × IsNoHigher (cond test (record found { floor = both }) (record planned { floor = both })).floor found.floor
   by_test true test = (
-    found_lower settings wanted plan found both new (no_higher_after both found.floor (reach_of found) low.1 new.floor)
+    found_lower settings wanted plan told found both new (no_higher_after both found.floor (reach_of found) low.1 new.floor)
         (exact_both (reach_of found) (no_higher_of (reach_of found) (reach_of planned) test) (no_higher_self (reach_of found))),
     low.0,
     low.1,
   )
   by_test false test = (
-    found_lower settings wanted plan planned both is (no_higher_after both planned.floor (reach_of planned) low.0 is.floor)
+    found_lower settings wanted plan told planned both is (no_higher_after both planned.floor (reach_of planned) low.0 is.floor)
         (exact_both (reach_of planned) (no_higher_self (reach_of planned)) (no_lower_of (reach_of found) (reach_of planned) test)),
     low.0,
     low.1,
   )
 
-  better_both : IsFound settings wanted plan (better (Some planned) found) × IsNoHigher (better (Some planned) found).floor planned.floor
+  better_both : IsFound settings wanted plan told (better (Some planned) found) × IsNoHigher (better (Some planned) found).floor planned.floor
       × IsNoHigher (better (Some planned) found).floor found.floor
   better_both = by_test (is_lower (reach_of found) (reach_of planned)) refl
 
-pub better_found : (settings : Settings) (wanted : Wanted) (plan : Plan) (chosen : Option Planned) (found : Planned) → IsStanding settings wanted plan chosen
-    → IsFound settings wanted plan found → IsStanding settings wanted plan (Some (better chosen found))
-better_found settings wanted plan None found is new = new
-better_found settings wanted plan (Some planned) found is new = (better_both settings wanted plan planned found is new).0
+pub better_found : (settings : Settings) (wanted : Wanted) (plan : Plan) (told : List Planned) (chosen : Option Planned) (found : Planned) → IsStanding settings wanted plan told chosen
+    → IsFound settings wanted plan told found → IsStanding settings wanted plan told (Some (better chosen found))
+better_found settings wanted plan told None found is new = new
+better_found settings wanted plan told (Some planned) found is new = (better_both settings wanted plan told planned found is new).0
 
-pub better_fallen : (settings : Settings) (wanted : Wanted) (plan : Plan) (chosen : Option Planned) (found : Planned) → IsStanding settings wanted plan chosen
-    → IsFound settings wanted plan found → HasFallen chosen (Some (better chosen found))
-better_fallen settings wanted plan None found is new = tt
-better_fallen settings wanted plan (Some planned) found is new = (better_both settings wanted plan planned found is new).1
+pub better_fallen : (settings : Settings) (wanted : Wanted) (plan : Plan) (told : List Planned) (chosen : Option Planned) (found : Planned) → IsStanding settings wanted plan told chosen
+    → IsFound settings wanted plan told found → HasFallen chosen (Some (better chosen found))
+better_fallen settings wanted plan told None found is new = tt
+better_fallen settings wanted plan told (Some planned) found is new = (better_both settings wanted plan told planned found is new).1
 
-better_low : (settings : Settings) (wanted : Wanted) (plan : Plan) (chosen : Option Planned) (found : Planned) → IsStanding settings wanted plan chosen
-    → IsFound settings wanted plan found → IsNoHigher (better chosen found).floor found.floor
-better_low settings wanted plan None found is new = no_higher_self found.floor
-better_low settings wanted plan (Some planned) found is new = (better_both settings wanted plan planned found is new).2
+better_low : (settings : Settings) (wanted : Wanted) (plan : Plan) (told : List Planned) (chosen : Option Planned) (found : Planned) → IsStanding settings wanted plan told chosen
+    → IsFound settings wanted plan told found → IsNoHigher (better chosen found).floor found.floor
+better_low settings wanted plan told None found is new = no_higher_self found.floor
+better_low settings wanted plan told (Some planned) found is new = (better_both settings wanted plan told planned found is new).2
 
-pub better_passed : (settings : Settings) (wanted : Wanted) (plan : Plan) (chosen : Option Planned) (found : Planned) (placement : List ℕ) → IsStanding settings wanted plan chosen
-    → IsFound settings wanted plan found → IsNotBelow wanted plan found.floor placement → IsPassed wanted plan (Some (better chosen found)) placement
-better_passed settings wanted plan chosen found placement is new here =
-    not_below_lower wanted plan (better chosen found).floor found.floor placement (better_low settings wanted plan chosen found is new) here
+pub better_passed : (settings : Settings) (wanted : Wanted) (plan : Plan) (told : List Planned) (chosen : Option Planned) (found : Planned) (placement : List ℕ) → IsStanding settings wanted plan told chosen
+    → IsFound settings wanted plan told found → IsNotBelow wanted plan found.floor placement → IsPassed wanted plan (Some (better chosen found)) placement
+better_passed settings wanted plan told chosen found placement is new here =
+    not_below_lower wanted plan (better chosen found).floor found.floor placement (better_low settings wanted plan told chosen found is new) here
 
 -- ---- a placement that is looked at
-pub outdone_passed : (settings : Settings) (wanted : Wanted) (plan : Plan) (chosen : Option Planned) (placement : List ℕ) (scenario : Scenario) (targets : List Target) → IsStanding settings wanted plan chosen
+pub outdone_passed : (settings : Settings) (wanted : Wanted) (plan : Plan) (told : List Planned) (chosen : Option Planned) (placement : List ℕ) (scenario : Scenario) (targets : List Target) → IsStanding settings wanted plan told chosen
     → scenario_at plan placement ≡ Ok scenario → targets ≡ targets_by wanted plan scenario → IsOutdone chosen scenario targets → IsPassed wanted plan chosen placement
-outdone_passed settings wanted plan None placement scenario targets is made of_plan outdone = absurd outdone
-outdone_passed settings wanted plan (Some planned) placement scenario targets is made of_plan outdone =
+outdone_passed settings wanted plan told None placement scenario targets is made of_plan outdone = absurd outdone
+outdone_passed settings wanted plan told (Some planned) placement scenario targets is made of_plan outdone =
     not_below_lower wanted plan planned.floor (reach_of planned) placement is.floor
     (not_below_here wanted plan (reach_of planned) placement scenario made
     (subst (λ (ts : List Target). IsExceeded scenario ts (excess_at (reach_of planned) (total_of scenario))) of_plan outdone))

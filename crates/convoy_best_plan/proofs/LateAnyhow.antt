@@ -155,17 +155,17 @@ pub record Used : Type 0 where
   pub ranges : RangesAreOfSites
   pub messages : MessagesAreOfPlans
 
-pub late_passed : (used : Used) (settings : Settings) (wanted : Wanted) (plan : Plan) (planned : Planned) (sites : List (Option ℕ)) (tick : ℕ) → IsPlan plan → plan.tick ≡ Some tick
-    → IsFound settings wanted plan planned → IsLateAnyhow plan planned.scenario sites planned.targets.items (reach_of planned)
+pub late_passed : (used : Used) (settings : Settings) (wanted : Wanted) (plan : Plan) (told : List Planned) (planned : Planned) (sites : List (Option ℕ)) → IsPlan plan
+    → IsFound settings wanted plan told planned → IsLateAnyhow plan planned.scenario sites planned.targets.items (reach_of planned)
     → (placement : List ℕ) → Completes placement sites → IsNotBelow wanted plan planned.floor placement
-late_passed used settings wanted plan planned sites tick is_plan long is late placement all scenario made order in_order_is =
+late_passed used settings wanted plan told planned sites is_plan is late placement all scenario made order in_order_is =
     let target : Target = late.target in
     let first : Scenario = planned.scenario in
-    let same = agree plan tick planned.placement.items placement first scenario long is.choice.made made in
+    let same = agree plan planned.placement.items placement first scenario is_plan is.choice.made made in
     let well = well_made plan placement scenario made used.given in
     let may = may_too first scenario target same (all-in (MayBeTarget first) target planned.targets.items is.choice.lawful (in_of_contains target planned.targets.items late.of_target)) in
     let run = commit_reached used.have used.given used.give used.renumbered used.after scenario target well may order in_order_is in
-    let many = message_count plan tick placement scenario long made in
+    let many = message_count plan placement scenario made in
     let known : target.message < length plan.written.messages = let below = may.known in omega (arith, below, many) in
     let at_group : target.group < length plan.written.groups =
     goes_known used.ranges used.messages plan is_plan placement sites all scenario made target.message known target.group (in_of_goes scenario target.message target.group may.addressed) in

@@ -4,8 +4,10 @@ pub mod Choices
 pub mod Placing
 pub mod LastListed
 pub mod Commits
+pub mod SameTicks
 pub mod Agreeing
 pub mod Summing
 pub mod LateAnyhow
 pub mod Passing
+pub mod InTurn
 pub mod ReadPlans

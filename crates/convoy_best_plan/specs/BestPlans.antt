@@ -1,5 +1,5 @@
--- The best choice of a plan: a placement of its groups at its sites with an order of the groups, and what no choice is below.
-use Rattle.std.specs.Prelude.{◌≡◌, ◌⊎◌, ℕ, List, Option, Some, None, Ok, All}
+-- The best choice of a plan: a placement of its groups at its sites with an order of the groups, and what no choice is below; and the best choices at so many placements, one after the other.
+use Rattle.std.specs.Prelude.{◌≡◌, ◌≢◌, ◌⊎◌, ℕ, ◌<◌, ◌≤◌, ⊤, List, [], ◌∷◌, ◌++◌, length, Option, Some, None, Ok, All}
 use Rattle.convoy_scenario.specs.Scenario.{Scenario}
 use Rattle.convoy_plans.specs.Placements.{IsPlacement, scenario_at}
 use Rattle.convoy_plans.specs.Plans.{Plan}
@@ -50,27 +50,51 @@ pub record IsChoice (settings : Settings) (wanted : Wanted) (plan : Plan) (plann
 abbrev pub reach_of : Planned → Floor
 reach_of planned = record { least = planned.best.most; ties = planned.total }
 
--- For some placement of the plan a search with these settings may stay open, for one of the targets that are wanted there with the groups in some order.
-pub record IsOpenSomewhere (settings : Settings) (wanted : Wanted) (plan : Plan) : Type 0 where
+-- WHAT IS TOLD ALREADY
+-- none of the choices that are told already has the placement
+abbrev pub IsNew : List Planned → List ℕ → Type 0
+IsNew told placement = All (λ planned. planned.placement.items ≢ placement) told
+
+-- For some placement of the plan that is not told already a search with these settings may stay open, for one of the targets that are wanted there with the groups in some order.
+pub record IsOpenSomewhere (settings : Settings) (wanted : Wanted) (plan : Plan) (told : List Planned) : Type 0 where
   pub placement : List ℕ
   pub is : IsPlacement plan placement
+  pub new : IsNew told placement
   pub scenario : Scenario
   pub made : scenario_at plan placement ≡ Ok scenario
   pub may_be : MayStayOpen settings scenario (targets_by wanted plan scenario)
 
 -- The floor of the choice is what it keeps, and no less, unless for some placement, order and target a search may stay open.
-abbrev pub IsExact : Settings → Wanted → Plan → Planned → Type 0
-IsExact settings wanted plan planned = IsNoHigher (reach_of planned) planned.floor ⊎ IsOpenSomewhere settings wanted plan
+abbrev pub IsExact : Settings → Wanted → Plan → List Planned → Planned → Type 0
+IsExact settings wanted plan told planned = IsNoHigher (reach_of planned) planned.floor ⊎ IsOpenSomewhere settings wanted plan told
 
 -- THE BEST PLAN
--- It is a choice of the plan, and no placement has an order that is below its floor: so says the law `NoChoiceIsBetter`. Where the floor is what the choice keeps no choice is better; it is, unless for some placement, order and target a search may stay open.
-pub record IsBestPlan (settings : Settings) (wanted : Wanted) (plan : Plan) (planned : Planned) : Type 0 where
+-- It is a choice of the plan at a placement that is not told already, and no other such placement has an order that is below its floor: so says the law `NoChoiceIsBetter`. Where the floor is what the choice keeps no choice is better; it is, unless for some placement, order and target a search may stay open.
+pub record IsBestPlan (settings : Settings) (wanted : Wanted) (plan : Plan) (told : List Planned) (planned : Planned) : Type 0 where
   pub choice : IsChoice settings wanted plan planned
+  pub new : IsNew told planned.placement.items
   pub floor : IsNoHigher planned.floor (reach_of planned)
-  pub exact : IsExact settings wanted plan planned
-  pub none_below : (placement : List ℕ) → IsPlacement plan placement → IsNotBelow wanted plan planned.floor placement
+  pub exact : IsExact settings wanted plan told planned
+  pub none_below : (placement : List ℕ) → IsPlacement plan placement → IsNew told placement → IsNotBelow wanted plan planned.floor placement
 
--- what may be answered: the best plan, or that no placement has a scenario
-abbrev pub IsPlanned : Settings → Wanted → Plan → Option Planned → Type 0
-IsPlanned settings wanted plan (Some planned) = IsBestPlan settings wanted plan planned
-IsPlanned settings wanted plan None = (placement : List ℕ) → IsPlacement plan placement → HasNoScenario plan placement
+-- each placement that has a scenario is told already
+abbrev pub AreAllTold : Plan → List Planned → Type 0
+AreAllTold plan told = (placement : List ℕ) → IsPlacement plan placement → IsNew told placement → HasNoScenario plan placement
+
+-- what may be answered: the best plan, or that no placement has a scenario but those that are told already
+abbrev pub IsPlanned : Settings → Wanted → Plan → List Planned → Option Planned → Type 0
+IsPlanned settings wanted plan told (Some planned) = IsBestPlan settings wanted plan told planned
+IsPlanned settings wanted plan told None = AreAllTold plan told
+
+-- THE BEST PLANS
+-- after those that are told already each choice is the best at a placement that none before it has
+abbrev pub AreInTurn : Settings → Wanted → Plan → List Planned → List Planned → Type 0
+AreInTurn settings wanted plan told [] = ⊤
+AreInTurn settings wanted plan told (planned ∷ others) =
+    IsBestPlan settings wanted plan told planned × AreInTurn settings wanted plan (told ++ planned ∷ []) others
+
+-- so many choices, the best first; or fewer, where no further placement has a scenario
+pub record AreBestPlans (settings : Settings) (wanted : Wanted) (plan : Plan) (count : ℕ) (all : List Planned) : Type 0 where
+  pub in_turn : AreInTurn settings wanted plan [] all
+  pub few : length all ≤ count
+  pub whole : length all < count → AreAllTold plan all

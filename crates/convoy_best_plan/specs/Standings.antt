@@ -12,22 +12,23 @@ use Rattle.convoy_best_order.specs.declared.wanted.Wanted.{Wanted}
 use Rattle.convoy_best_order.specs.Best.{IsBest}
 use Rattle.convoy_best_order.specs.Excesses.{IsLess, lesser}
 use Rattle.convoy_best_plan.specs.declared.planned.Planned.{Planned}
-use Rattle.convoy_best_plan.specs.BestPlans.{HasNoScenario, IsChoice, IsExact, IsExceeded, IsNotBelow, reach_of}
+use Rattle.convoy_best_plan.specs.BestPlans.{HasNoScenario, IsChoice, IsExact, IsExceeded, IsNew, IsNotBelow, reach_of}
 use Rattle.convoy_best_plan.specs.Floors.{IsNoHigher, excess_at, is_lower, lower}
 use Rattle.convoy_best_plan.specs.Totals.{total_of}
 
 -- THE CHOICE SO FAR
--- It is a choice, found with some settings. Its floor is no higher than what it keeps; and it is no lower, unless for some placement, order and target a search with these settings may stay open.
-pub record IsFound (settings : Settings) (wanted : Wanted) (plan : Plan) (planned : Planned) : Type 0 where
+-- It is a choice at a placement that is not told already, found with some settings. Its floor is no higher than what it keeps; and it is no lower, unless for some placement, order and target a search with these settings may stay open.
+pub record IsFound (settings : Settings) (wanted : Wanted) (plan : Plan) (told : List Planned) (planned : Planned) : Type 0 where
   pub used : Settings
   pub choice : IsChoice used wanted plan planned
+  pub new : IsNew told planned.placement.items
   pub floor : IsNoHigher planned.floor (reach_of planned)
-  pub exact : IsExact settings wanted plan planned
+  pub exact : IsExact settings wanted plan told planned
 
 -- the best choice so far, if there is one, is one
-abbrev pub IsStanding : Settings → Wanted → Plan → Option Planned → Type 0
-IsStanding settings wanted plan None = ⊤
-IsStanding settings wanted plan (Some planned) = IsFound settings wanted plan planned
+abbrev pub IsStanding : Settings → Wanted → Plan → List Planned → Option Planned → Type 0
+IsStanding settings wanted plan told None = ⊤
+IsStanding settings wanted plan told (Some planned) = IsFound settings wanted plan told planned
 
 -- a choice that there was is no lower than the one that there is
 abbrev pub HasFallen : Option Planned → Option Planned → Type 0
@@ -40,10 +41,10 @@ abbrev pub IsPassed : Wanted → Plan → Option Planned → List ℕ → Type 0
 IsPassed wanted plan None placement = HasNoScenario plan placement
 IsPassed wanted plan (Some planned) placement = IsNotBelow wanted plan planned.floor placement
 
--- all placements that have these sites are passed
-abbrev pub ArePassed : Wanted → Plan → Option Planned → List (Option ℕ) → Type 0
-ArePassed wanted plan chosen sites =
-    (placement : List ℕ) → IsPlacement plan placement → Completes placement sites → IsPassed wanted plan chosen placement
+-- all placements that have these sites are passed, but for those that are told already
+abbrev pub ArePassed : Wanted → Plan → List Planned → Option Planned → List (Option ℕ) → Type 0
+ArePassed wanted plan told chosen sites =
+    (placement : List ℕ) → IsPlacement plan placement → IsNew told placement → Completes placement sites → IsPassed wanted plan chosen placement
 
 -- how many groups have no site yet
 abbrev pub left_of : List (Option ℕ) → ℕ

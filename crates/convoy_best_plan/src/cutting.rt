@@ -1,8 +1,9 @@
 //! Whether all placements that have some sites are passed at once.
 
-ghost use Rattle.std.specs.Prelude.{◌≡◌, Some, IsTrue};
+ghost use Rattle.std.specs.Prelude.{List, Some, IsTrue};
 ghost use Rattle.convoy_branch.specs.Options.{Settings};
 ghost use Rattle.convoy_best_order.specs.declared.wanted.Wanted.{Wanted};
+ghost use Rattle.convoy_best_plan.specs.declared.planned.Planned.{Planned};
 ghost use Rattle.convoy_best_plan.specs.Standings.{ArePassed, IsFound, IsStanding};
 
 use super::leaves::is_late_anyhow;
@@ -16,10 +17,10 @@ use convoy_scenario::scenario_laws::{drafts_give_scenarios, scenarios_have_draft
 use convoy_sim::protocol_laws::delivered_after_commit;
 
 /// Whether no placement that has these sites is better than the best choice so far, as some target is too late by its
-/// commit alone. Nothing is known of plans whose ticks have no length.
+/// commit alone.
 pub(crate) fn is_cut(plan: &Plan, chosen: &Option<Planned>, sites: &[Option<usize>]) -> bool
-    ensures { (settings : Settings) (wanted : Wanted) → IsStanding settings wanted plan.now chosen.now → IsTrue result
-        → ArePassed wanted plan.now chosen.now sites.now }
+    ensures { (settings : Settings) (wanted : Wanted) (told : List Planned) → IsStanding settings wanted plan.now told chosen.now → IsTrue result
+        → ArePassed wanted plan.now told chosen.now sites.now }
 {
     match chosen {
         None => false,
@@ -29,8 +30,8 @@ pub(crate) fn is_cut(plan: &Plan, chosen: &Option<Planned>, sites: &[Option<usiz
 
 /// The same of a choice that there is.
 fn is_late_below(plan: &Plan, planned: &Planned, sites: &[Option<usize>]) -> bool
-    ensures { (settings : Settings) (wanted : Wanted) → IsFound settings wanted plan.now planned.now → IsTrue result
-        → ArePassed wanted plan.now (Some planned.now) sites.now }
+    ensures { (settings : Settings) (wanted : Wanted) (told : List Planned) → IsFound settings wanted plan.now told planned.now → IsTrue result
+        → ArePassed wanted plan.now told (Some planned.now) sites.now }
 {
     scenarios_have_drafts();
     drafts_give_scenarios();
@@ -41,14 +42,11 @@ fn is_late_below(plan: &Plan, planned: &Planned, sites: &[Option<usize>]) -> boo
     messages_are_of_plans();
     // A plan is well formed.
     let _count = plan.group_count();
-    match plan.tick() {
-        None => false,
-        Some(_) => is_late_anyhow(
-            plan,
-            &planned.scenario,
-            sites,
-            &planned.targets,
-            planned.reach(),
-        ),
-    }
+    is_late_anyhow(
+        plan,
+        &planned.scenario,
+        sites,
+        &planned.targets,
+        planned.reach(),
+    )
 }

@@ -9,7 +9,9 @@ use super::floor::Floor;
 use super::hints::{Hint, TargetHints};
 use super::last::last_listed;
 use super::near::near_placement;
+use super::planned::Planned;
 use super::targets::targets_by;
+use super::told::is_new;
 use super::totals::total_of;
 use super::visiting::scenario_if_made;
 use convoy_best_order::{Excess, Target, Wanted};
@@ -27,28 +29,47 @@ struct Guess {
     reach: Floor,
 }
 
-/// Sites of all groups that are likely to be a good placement. What was late on the way are hints. Fails where memory runs out,
-/// and else never.
+/// Sites of all groups that are likely to be a good placement; where some choices are told already one that is near to the last
+/// of them, if there is such. What was late on the way are hints. Fails where memory runs out, and else never.
 pub(crate) fn likely_placement(
     alloc: Global,
     plan: &Plan,
     wanted: Wanted,
+    told: &[Planned],
     served: &mut Vec<TargetHints>,
 ) -> Result<Vec<usize>, AllocError> {
-    let near = near_placement(alloc, plan)?;
-    if !is_placement(plan, &near) {
-        return Ok(near);
-    }
-    let all = Floor {
+    let reach = Floor {
         least: Excess {
             latency: u32::MAX,
             limit: 0,
         },
         ties: 0,
     };
+    match told.last() {
+        Some(planned) => {
+            let placement = Vec::from_slice(alloc, &planned.placement)?;
+            let guess = Guess { placement, reach };
+            moved(alloc, plan, wanted, told, guess, served)
+        }
+        None => first_likely(alloc, plan, wanted, reach, served),
+    }
+}
+
+/// The same where no choice is told yet, of placements that keep less than that.
+fn first_likely(
+    alloc: Global,
+    plan: &Plan,
+    wanted: Wanted,
+    reach: Floor,
+    served: &mut Vec<TargetHints>,
+) -> Result<Vec<usize>, AllocError> {
+    let near = near_placement(alloc, plan)?;
+    if !is_placement(plan, &near) {
+        return Ok(near);
+    }
     let first = Vec::from_slice(alloc, &near)?;
-    match better_guess(alloc, plan, wanted, first, all, served)? {
-        Some(guess) => moved(alloc, plan, wanted, guess, served),
+    match better_guess(alloc, plan, wanted, first, reach, served)? {
+        Some(guess) => moved(alloc, plan, wanted, &[], guess, served),
         None => Ok(near),
     }
 }
@@ -58,13 +79,14 @@ fn moved(
     alloc: Global,
     plan: &Plan,
     wanted: Wanted,
+    told: &[Planned],
     guess: Guess,
     served: &mut Vec<TargetHints>,
 ) -> Result<Vec<usize>, AllocError> {
     let mut guess = guess;
     for _ in 0..MOST_ROUNDS {
         let before = guess.reach;
-        guess = after_moves(alloc, plan, wanted, guess, served)?;
+        guess = after_moves(alloc, plan, wanted, told, guess, served)?;
         if !guess.reach.is_lower(before) {
             return Ok(guess.placement);
         }
@@ -77,13 +99,14 @@ fn after_moves(
     alloc: Global,
     plan: &Plan,
     wanted: Wanted,
+    told: &[Planned],
     guess: Guess,
     served: &mut Vec<TargetHints>,
 ) -> Result<Guess, AllocError> {
     let mut guess = guess;
     for group in 0..plan.group_count() {
-        guess = after_moves_of(alloc, plan, wanted, guess, group, served)?;
-        guess = after_exchanges(alloc, plan, wanted, guess, group, served)?;
+        guess = after_moves_of(alloc, plan, wanted, told, guess, group, served)?;
+        guess = after_exchanges(alloc, plan, wanted, told, guess, group, served)?;
     }
     Ok(guess)
 }
@@ -93,6 +116,7 @@ fn after_moves_of(
     alloc: Global,
     plan: &Plan,
     wanted: Wanted,
+    told: &[Planned],
     guess: Guess,
     group: usize,
     served: &mut Vec<TargetHints>,
@@ -101,7 +125,7 @@ fn after_moves_of(
     for site in plan.sites_of(group) {
         let mut other = Vec::from_slice(alloc, &guess.placement)?;
         put(&mut other, group, *site);
-        guess = better_of(alloc, plan, wanted, guess, other, served)?;
+        guess = better_of(alloc, plan, wanted, told, guess, other, served)?;
     }
     Ok(guess)
 }
@@ -111,6 +135,7 @@ fn after_exchanges(
     alloc: Global,
     plan: &Plan,
     wanted: Wanted,
+    told: &[Planned],
     guess: Guess,
     group: usize,
     served: &mut Vec<TargetHints>,
@@ -119,7 +144,7 @@ fn after_exchanges(
     for with in 0..group {
         let mut other = Vec::from_slice(alloc, &guess.placement)?;
         exchange(&mut other, group, with);
-        guess = better_of(alloc, plan, wanted, guess, other, served)?;
+        guess = better_of(alloc, plan, wanted, told, guess, other, served)?;
     }
     Ok(guess)
 }
@@ -140,16 +165,17 @@ fn exchange(placement: &mut Vec<usize>, group: usize, with: usize) {
     }
 }
 
-/// The guess, or other sites if they are a placement that seems to be better.
+/// The guess, or other sites if they are a placement that is not told already and seems to be better.
 fn better_of(
     alloc: Global,
     plan: &Plan,
     wanted: Wanted,
+    told: &[Planned],
     guess: Guess,
     other: Vec<usize>,
     served: &mut Vec<TargetHints>,
 ) -> Result<Guess, AllocError> {
-    if other == guess.placement || !is_placement(plan, &other) {
+    if other == guess.placement || !is_placement(plan, &other) || !is_new(told, &other) {
         return Ok(guess);
     }
     match better_guess(alloc, plan, wanted, other, guess.reach, served)? {

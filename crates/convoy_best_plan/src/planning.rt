@@ -1,6 +1,6 @@
 ghost use Rattle.std.specs.Prelude.{ℕ, List, IfOk, ◌<◌, length};
 ghost use Rattle.convoy_plans.specs.Placements.{IsPlacement};
-ghost use Rattle.convoy_best_plan.specs.BestPlans.{IsBestPlan, IsNotBelow, IsPlanned};
+ghost use Rattle.convoy_best_plan.specs.BestPlans.{AreBestPlans, IsBestPlan, IsNew, IsNotBelow, IsPlanned};
 ghost use Rattle.convoy_best_plan.specs.Standings.{IsFound, IsPassed, IsStanding};
 
 use super::judging::choice_of;
@@ -18,19 +18,46 @@ use std::alloc::{AllocError, Global};
 use std::sync::Wait;
 use std::thread::Threads;
 
+/// The best choices of a plan at so many placements, one after the other: the first is the best of all ([`best_plan`]), and
+/// each other one the best of the placements that none before it has. There are fewer where no further placement has a
+/// scenario. Each search is watched. Fails where memory runs out, and else never.
+pub fn best_plans<R: Threads + Wait + Sync, W: Watch + Sync>(
+    rt: &R,
+    alloc: Global,
+    plan: &Plan,
+    wanted: Wanted,
+    count: usize,
+    options: &Options,
+    watches: &[W],
+) -> Result<Vec<Planned>, AllocError>
+    requires watched { 0 < length watches.now }
+    ensures { IfOk result (λ all. AreBestPlans options.now wanted plan.now count all.items) }
+{
+    let mut all = Vec::new(alloc);
+    while all.len() < count {
+        match best_plan(rt, alloc, plan, wanted, &all, options, watches)? {
+            Some(planned) => all.push(planned)?,
+            None => return Ok(all),
+        }
+    }
+    Ok(all)
+}
+
 /// The best choice of a plan for the targets that are wanted: the placement and the order of its groups with the least
-/// greatest excess of latency over deadline, and of those with that excess one with the least total. None where no placement
-/// has a scenario. Each search is watched. Fails where memory runs out, and else never.
+/// greatest excess of latency over deadline, and of those with that excess one with the least total; of the placements that
+/// none of the choices has that are told already. None where no such placement has a scenario. Each search is watched. Fails
+/// where memory runs out, and else never.
 pub fn best_plan<R: Threads + Wait + Sync, W: Watch + Sync>(
     rt: &R,
     alloc: Global,
     plan: &Plan,
     wanted: Wanted,
+    told: &[Planned],
     options: &Options,
     watches: &[W],
 ) -> Result<Option<Planned>, AllocError>
     requires watched { 0 < length watches.now }
-    ensures { IfOk result (IsPlanned options.now wanted plan.now) }
+    ensures { IfOk result (IsPlanned options.now wanted plan.now told.now) }
 {
     let groups = plan.group_count();
     let sites = vec![in alloc; None; groups]?;
@@ -38,11 +65,20 @@ pub fn best_plan<R: Threads + Wait + Sync, W: Watch + Sync>(
         chosen: None,
         served: Vec::new(alloc),
     };
-    let started = start(rt, alloc, plan, wanted, standing, options, watches)?;
+    let started = start(rt, alloc, plan, wanted, told, standing, options, watches)?;
     let standing = search_below(
-        rt, alloc, plan, wanted, groups, &sites, started, options, watches,
+        rt, alloc, plan, wanted, told, groups, &sites, started, options, watches,
     )?;
-    settled_if(rt, alloc, plan, wanted, standing.chosen, options, watches)
+    settled_if(
+        rt,
+        alloc,
+        plan,
+        wanted,
+        told,
+        standing.chosen,
+        options,
+        watches,
+    )
 }
 
 /// The choice, if there is one, with the best order of its groups as the options say. Fails where memory runs out, and else
@@ -52,18 +88,21 @@ fn settled_if<R: Threads + Wait + Sync, W: Watch + Sync>(
     alloc: Global,
     plan: &Plan,
     wanted: Wanted,
+    told: &[Planned],
     chosen: Option<Planned>,
     options: &Options,
     watches: &[W],
 ) -> Result<Option<Planned>, AllocError>
     requires watched { 0 < length watches.now }
-    requires standing { IsStanding options.now wanted plan.now chosen }
-    requires passed { (placement : List ℕ) → IsPlacement plan.now placement → IsPassed wanted plan.now chosen placement }
-    ensures { IfOk result (IsPlanned options.now wanted plan.now) }
+    requires standing { IsStanding options.now wanted plan.now told.now chosen }
+    requires passed { (placement : List ℕ) → IsPlacement plan.now placement → IsNew told.now placement → IsPassed wanted plan.now chosen placement }
+    ensures { IfOk result (IsPlanned options.now wanted plan.now told.now) }
 {
     match chosen {
         None => Ok(None),
-        Some(planned) => Ok(Some(settled(rt, alloc, plan, wanted, planned, options, watches)?)),
+        Some(planned) => Ok(Some(settled(
+            rt, alloc, plan, wanted, told, planned, options, watches,
+        )?)),
     }
 }
 
@@ -73,14 +112,15 @@ fn settled<R: Threads + Wait + Sync, W: Watch + Sync>(
     alloc: Global,
     plan: &Plan,
     wanted: Wanted,
+    told: &[Planned],
     planned: Planned,
     options: &Options,
     watches: &[W],
 ) -> Result<Planned, AllocError>
     requires watched { 0 < length watches.now }
-    requires found { IsFound options.now wanted plan.now planned }
-    requires passed { (placement : List ℕ) → IsPlacement plan.now placement → IsNotBelow wanted plan.now planned.floor placement }
-    ensures { IfOk result (IsBestPlan options.now wanted plan.now) }
+    requires found { IsFound options.now wanted plan.now told.now planned }
+    requires passed { (placement : List ℕ) → IsPlacement plan.now placement → IsNew told.now placement → IsNotBelow wanted plan.now planned.floor placement }
+    ensures { IfOk result (IsBestPlan options.now wanted plan.now told.now) }
 {
     no_order_is_better();
     best_order_keeps();

@@ -5,7 +5,9 @@ ghost use Rattle.convoy_plans.specs.Placements.{IsPlacement};
 ghost use Rattle.convoy_best_plan.specs.Standings.{ArePassed, HasFallen, IsStanding, left_of};
 
 use super::cutting::is_cut;
+use super::planned::Planned;
 use super::standing::Standing;
+use super::told::is_new;
 use super::visiting::visit;
 use convoy_best_order::Wanted;
 use convoy_branch::Options;
@@ -15,13 +17,14 @@ use std::alloc::{AllocError, Global};
 use std::sync::Wait;
 use std::thread::Threads;
 
-/// Searches all placements that have these sites, where at most so many groups have none yet. Fails where memory runs
-/// out, and else never.
+/// Searches all placements that have these sites, but for those that are told already, where at most so many groups have no
+/// site yet. Fails where memory runs out, and else never.
 pub(crate) fn search_below<R: Threads + Wait + Sync, W: Watch + Sync>(
     rt: &R,
     alloc: Global,
     plan: &Plan,
     wanted: Wanted,
+    told: &[Planned],
     left: usize,
     sites: &[Option<usize>],
     standing: Standing,
@@ -31,10 +34,10 @@ pub(crate) fn search_below<R: Threads + Wait + Sync, W: Watch + Sync>(
     requires watched { 0 < length watches.now }
     requires long { length sites.now ≡ length plan.now.written.groups }
     requires left { left_of sites.now ≤ left }
-    requires standing { IsStanding options.now wanted plan.now standing.chosen }
-    ensures standing { IfOk result (λ next. IsStanding options.now wanted plan.now next.chosen) }
+    requires standing { IsStanding options.now wanted plan.now told.now standing.chosen }
+    ensures standing { IfOk result (λ next. IsStanding options.now wanted plan.now told.now next.chosen) }
     ensures fallen { IfOk result (λ next. HasFallen standing.chosen next.chosen) }
-    ensures passed { IfOk result (λ next. ArePassed wanted plan.now next.chosen sites.now) }
+    ensures passed { IfOk result (λ next. ArePassed wanted plan.now told.now next.chosen sites.now) }
 {
     let cut = is_cut(plan, &standing.chosen, sites);
     if cut {
@@ -42,7 +45,9 @@ pub(crate) fn search_below<R: Threads + Wait + Sync, W: Watch + Sync>(
     }
     let group = match next_group(plan, sites) {
         Some(group) => group,
-        None => return visit_placed(rt, alloc, plan, wanted, sites, standing, options, watches),
+        None => return visit_placed(
+            rt, alloc, plan, wanted, told, sites, standing, options, watches,
+        ),
     };
     let homes = plan.sites_of(group);
     let mut standing = standing;
@@ -53,6 +58,7 @@ pub(crate) fn search_below<R: Threads + Wait + Sync, W: Watch + Sync>(
             alloc,
             plan,
             wanted,
+            told,
             left - 1,
             &more,
             standing,
@@ -132,12 +138,13 @@ pub fn with_site(
     Ok(more)
 }
 
-/// Looks at the placement that has these sites, where each group has one.
+/// Looks at the placement that has these sites, where each group has one, unless it is told already.
 fn visit_placed<R: Threads + Wait + Sync, W: Watch + Sync>(
     rt: &R,
     alloc: Global,
     plan: &Plan,
     wanted: Wanted,
+    told: &[Planned],
     sites: &[Option<usize>],
     standing: Standing,
     options: &Options,
@@ -146,10 +153,10 @@ fn visit_placed<R: Threads + Wait + Sync, W: Watch + Sync>(
     requires watched { 0 < length watches.now }
     requires long { length sites.now ≡ length plan.now.written.groups }
     requires all { left_of sites.now ≡ 0 }
-    requires standing { IsStanding options.now wanted plan.now standing.chosen }
-    ensures standing { IfOk result (λ next. IsStanding options.now wanted plan.now next.chosen) }
+    requires standing { IsStanding options.now wanted plan.now told.now standing.chosen }
+    ensures standing { IfOk result (λ next. IsStanding options.now wanted plan.now told.now next.chosen) }
     ensures fallen { IfOk result (λ next. HasFallen standing.chosen next.chosen) }
-    ensures passed { IfOk result (λ next. ArePassed wanted plan.now next.chosen sites.now) }
+    ensures passed { IfOk result (λ next. ArePassed wanted plan.now told.now next.chosen sites.now) }
 {
     // A plan is well formed.
     let _count = plan.group_count();
@@ -158,8 +165,12 @@ fn visit_placed<R: Threads + Wait + Sync, W: Watch + Sync>(
     if !placed {
         return Ok(standing);
     }
+    let new = is_new(told, &placement);
+    if !new {
+        return Ok(standing);
+    }
     visit(
-        rt, alloc, plan, wanted, placement, standing, options, watches,
+        rt, alloc, plan, wanted, told, placement, standing, options, watches,
     )
 }
 

@@ -99,7 +99,7 @@ fn site_at(placement: &[usize], group: usize) -> usize
 
 /// The table of the order in which the groups are listed, with one column more for their sites where no line above it tells
 /// them.
-fn plan_table(
+pub(crate) fn plan_table(
     alloc: Global,
     format: Format,
     with_reasons: bool,

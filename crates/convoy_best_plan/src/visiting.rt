@@ -3,11 +3,12 @@
 ghost use Rattle.std.specs.Prelude.{◌≡◌, All, IsTrue, Ok, IfNone, IfOk, IfSome, OnOk, ◌<◌, length};
 ghost use Rattle.convoy_plans.specs.Placements.{IsPlacement, scenario_at};
 ghost use Rattle.convoy_best_order.specs.Targets.{MayBeTarget};
-ghost use Rattle.convoy_best_plan.specs.BestPlans.{HasNoScenario};
+ghost use Rattle.convoy_best_plan.specs.BestPlans.{HasNoScenario, IsNew};
 ghost use Rattle.convoy_best_plan.specs.Standings.{HasFallen, IsOutdone, IsPassed, IsStanding};
 
 use super::excluding::is_exceeded;
 use super::judging::{best_found, choice_of};
+use super::planned::Planned;
 use super::standing::Standing;
 use super::targets::targets_by;
 use super::totals::total_of;
@@ -28,6 +29,7 @@ pub(crate) fn visit<R: Threads + Wait + Sync, W: Watch + Sync>(
     alloc: Global,
     plan: &Plan,
     wanted: Wanted,
+    told: &[Planned],
     placement: Vec<usize>,
     standing: Standing,
     options: &Options,
@@ -35,14 +37,15 @@ pub(crate) fn visit<R: Threads + Wait + Sync, W: Watch + Sync>(
 ) -> Result<Standing, AllocError>
     requires watched { 0 < length watches.now }
     requires placement { IsPlacement plan.now placement.items }
-    requires standing { IsStanding options.now wanted plan.now standing.chosen }
-    ensures standing { IfOk result (λ next. IsStanding options.now wanted plan.now next.chosen) }
+    requires new { IsNew told.now placement.items }
+    requires standing { IsStanding options.now wanted plan.now told.now standing.chosen }
+    ensures standing { IfOk result (λ next. IsStanding options.now wanted plan.now told.now next.chosen) }
     ensures fallen { IfOk result (λ next. HasFallen standing.chosen next.chosen) }
     ensures passed { IfOk result (λ next. IsPassed wanted plan.now next.chosen placement.items) }
 {
     match scenario_if_made(alloc, plan, &placement)? {
         Some(scenario) => visit_scenario(
-            rt, alloc, plan, wanted, placement, scenario, standing, options, watches,
+            rt, alloc, plan, wanted, told, placement, scenario, standing, options, watches,
         ),
         None => Ok(standing),
     }
@@ -70,6 +73,7 @@ fn visit_scenario<R: Threads + Wait + Sync, W: Watch + Sync>(
     alloc: Global,
     plan: &Plan,
     wanted: Wanted,
+    told: &[Planned],
     placement: Vec<usize>,
     scenario: Scenario,
     standing: Standing,
@@ -78,9 +82,10 @@ fn visit_scenario<R: Threads + Wait + Sync, W: Watch + Sync>(
 ) -> Result<Standing, AllocError>
     requires watched { 0 < length watches.now }
     requires placement { IsPlacement plan.now placement.items }
+    requires new { IsNew told.now placement.items }
     requires made { scenario_at plan.now placement.items ≡ Ok scenario }
-    requires standing { IsStanding options.now wanted plan.now standing.chosen }
-    ensures standing { IfOk result (λ next. IsStanding options.now wanted plan.now next.chosen) }
+    requires standing { IsStanding options.now wanted plan.now told.now standing.chosen }
+    ensures standing { IfOk result (λ next. IsStanding options.now wanted plan.now told.now next.chosen) }
     ensures fallen { IfOk result (λ next. HasFallen standing.chosen next.chosen) }
     ensures passed { IfOk result (λ next. IsPassed wanted plan.now next.chosen placement.items) }
 {

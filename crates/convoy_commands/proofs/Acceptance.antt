@@ -28,6 +28,7 @@ use Rattle.convoy_commands.specs.declared.done.Done.{Done}
 use Rattle.convoy_commands.specs.declared.done.Done.TheVariants as ends
 use Rattle.convoy_commands.specs.Checks.{check_reply}
 use Rattle.convoy_commands.specs.Measured.{measure_of_text}
+use Rattle.convoy_commands.specs.Outsides.{outside_of_text, outside_text}
 use Rattle.convoy_commands.specs.ReplyLines.{accepted_line, greatest_line, open_line, schedule_text}
 use Rattle.convoy_commands.specs.Searches.{IsFrontBy, IsFrontTold, IsGreatestTold, IsOpenBetween, IsOpenProof, IsOutcomeBy, IsProof, IsSearchOf}
 use Rattle.convoy_commands.specs.Verdicts.{judged, target_deadline, verdict_text}
@@ -182,7 +183,8 @@ module _ (asked : Asked) (settings : Settings) (text : List ℕ) (end : Done) (o
   pub greatest_written : (certificate : Certificate) (tickets : ℕ) (by_worker : Vec ℕ Global) →
       IsSearchOf asked settings text scenario (Proved certificate tickets by_worker) → settings.limit ≤ highest_limit settings.ways →
       out ≡ greatest_line (measure_of_text settings.unit text scenario) certificate.latency
-      ++ verdict_text (measure_of_text settings.unit text scenario) (target_deadline asked text scenario) certificate.latency certificate.latency →
+      ++ (verdict_text (measure_of_text settings.unit text scenario) (target_deadline asked text scenario) certificate.latency certificate.latency
+      ++ outside_text (outside_of_text text scenario)) →
       end ≡ judged (target_deadline asked text scenario) certificate.latency certificate.latency ends.Fine →
       IsGreatestTold asked settings text end out
   greatest_written certificate tickets by_worker search few written ended_so =
@@ -215,7 +217,8 @@ module _ (asked : Asked) (settings : Settings) (text : List ℕ) (end : Done) (o
   pub bounds_written : (best : Record) (upper tickets : ℕ) (by_worker : Vec ℕ Global) →
       IsSearchOf asked settings text scenario (Open best upper tickets by_worker) →
       out ≡ open_line (measure_of_text settings.unit text scenario) best.latency upper
-      ++ verdict_text (measure_of_text settings.unit text scenario) (target_deadline asked text scenario) best.latency upper →
+      ++ (verdict_text (measure_of_text settings.unit text scenario) (target_deadline asked text scenario) best.latency upper
+      ++ outside_text (outside_of_text text scenario)) →
       end ≡ judged (target_deadline asked text scenario) best.latency upper ends.Open →
       IsFrontTold asked settings text end out
   bounds_written best upper tickets by_worker search written ended_so = record {

@@ -151,12 +151,17 @@ row_of_trace_line trace_lines.Time = (62, codes "no time in line ")
 row_of_trace_line trace_lines.Stamp = (62, codes "no stamp in line ")
 row_of_trace_line trace_lines.Twice = (62, codes "event told twice in line ")
 row_of_trace_line trace_lines.Late = (63, codes "time over limit in line ")
+row_of_trace_line trace_lines.Name = (64, codes "no name in line ")
+row_of_trace_line trace_lines.Early = (65, codes "came before it was sent in line ")
+row_of_trace_line trace_lines.TooMany = (66, codes "too many links in line ")
+row_of_trace_line trace_lines.Wide = (66, codes "range over limit in line ")
 
 -- the number and the text of why a text is no trace
 abbrev pub row_of_trace : TraceFault → ℕ × List ℕ
 row_of_trace traces.Empty = (60, codes "empty trace")
 row_of_trace (traces.Line line cause) = ((row_of_trace_line cause).0, (row_of_trace_line cause).1 ++ decimal line)
 row_of_trace (traces.TooFine parts) = (63, codes "times finer than 1/" ++ decimal parts)
+row_of_trace traces.NoPacket = (65, codes "no packet")
 row_of_trace traces.Memory = memory_row
 
 -- a fault's number and its text

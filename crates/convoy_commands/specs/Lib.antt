@@ -5,6 +5,8 @@ pub use Rattle.convoy_scenario.specs.Naming
 pub use Rattle.convoy_scenario_lines.specs.ScenarioLines
 pub use Rattle.convoy_toml.specs.Reading
 pub use Rattle.convoy_toml.specs.Deadlines
+pub use Rattle.convoy_outside.specs.Percents
+pub use Rattle.convoy_outside.specs.Sums
 pub use Rattle.convoy_draft.specs.Keys
 pub use Rattle.convoy_times.specs.Measures
 pub use Rattle.convoy_toml.specs.Shape
@@ -51,6 +53,7 @@ pub use Rattle.convoy_branch.specs.Options
 pub mod Measured
 pub mod ReplyLines
 pub mod Verdicts
+pub mod Outsides
 pub mod Faults
 pub mod Refusals
 pub mod Replies

@@ -33,6 +33,7 @@ use Rattle.convoy_commands.specs.Checks.{check_reply}
 use Rattle.convoy_commands.specs.Faults.{told_of}
 use Rattle.convoy_commands.specs.ReplyLines.{accepted_line, greatest_line, open_line, schedule_text}
 use Rattle.convoy_commands.specs.Measured.{measure_of_text}
+use Rattle.convoy_commands.specs.Outsides.{outside_of_text, outside_text}
 use Rattle.convoy_commands.specs.Replies.{Rule}
 use Rattle.convoy_commands.specs.Verdicts.{judged, target_deadline, verdict_text}
 use Rattle.convoy_commands.specs.declared.search.Searched.{Searched}
@@ -73,12 +74,13 @@ pub record IsSearchOf (asked : Asked) (settings : Settings) (text : List ℕ) (s
   pub lawful : IsScenario scenario
   pub ended : IsEnd settings scenario outcome
 
--- what a search for the scenario of a text gives, with that scenario, how its times are told, and the deadline of its target; or why there is no answer
+-- what a search for the scenario of a text gives, with that scenario, how its times are told, the deadline of its target, and in which share of runs a packet may leave its range; or why there is no answer
 abbrev pub SearchGives : Asked → Settings → List ℕ → Result Searched Fault → Type 0
 SearchGives asked settings text (Ok searched) =
     IsSearchOf asked settings text searched.read searched.outcome
     × (searched.measure ≡ measure_of_text settings.unit text searched.read)
     × (searched.deadline ≡ target_deadline asked text searched.read)
+    × (searched.outside ≡ outside_of_text text searched.read)
 SearchGives asked settings text (Err fault) = IsFaultyBy asked text fault ⊎ (fault ≡ Memory)
 
 -- THE HEADLINE. What is written is a certificate of the scenario that was read, with no more nodes than there are tickets; its schedule has the stated latency; no assignment has a greater one; and the checker accepts what is written. How the command ends, the deadline of the target says where there is one.
@@ -122,7 +124,7 @@ abbrev pub AnalyseSays : Asked → Settings → Rule
 AnalyseSays asked settings text (Ok (end, out)) = IsProof asked settings text end out ⊎ IsOpenProof asked settings text end out
 AnalyseSays asked settings text (Err fault) = IsFaultyBy asked text fault
 
--- The greatest latency of the scenario that was read is written, and how it keeps the deadline of the target where there is one.
+-- The greatest latency of the scenario that was read is written, how it keeps the deadline of the target where there is one, and how sure the ranges are where that is told.
 pub record IsGreatestTold (asked : Asked) (settings : Settings) (text : List ℕ) (end : Done) (out : List ℕ) : Type 0 where
   pub scenario : Scenario
   pub latency : ℕ
@@ -131,10 +133,11 @@ pub record IsGreatestTold (asked : Asked) (settings : Settings) (text : List ℕ
   pub greatest : IsGreatest scenario latency
   pub written : out
       ≡ greatest_line (measure_of_text settings.unit text scenario) latency
-      ++ verdict_text (measure_of_text settings.unit text scenario) (target_deadline asked text scenario) latency latency
+      ++ (verdict_text (measure_of_text settings.unit text scenario) (target_deadline asked text scenario) latency latency
+      ++ outside_text (outside_of_text text scenario))
   pub ends : end ≡ judged (target_deadline asked text scenario) latency latency Fine
 
--- What is written is the least and the most that the greatest latency may be, and how that keeps the deadline.
+-- What is written is the least and the most that the greatest latency may be, how that keeps the deadline, and how sure the ranges are.
 pub record IsFrontTold (asked : Asked) (settings : Settings) (text : List ℕ) (end : Done) (out : List ℕ) : Type 0 where
   pub scenario : Scenario
   pub least : ℕ
@@ -142,7 +145,8 @@ pub record IsFrontTold (asked : Asked) (settings : Settings) (text : List ℕ) (
   pub between : IsOpenBetween asked settings text scenario least most
   pub written : out
       ≡ open_line (measure_of_text settings.unit text scenario) least most
-      ++ verdict_text (measure_of_text settings.unit text scenario) (target_deadline asked text scenario) least most
+      ++ (verdict_text (measure_of_text settings.unit text scenario) (target_deadline asked text scenario) least most
+      ++ outside_text (outside_of_text text scenario))
   pub ends : end ≡ judged (target_deadline asked text scenario) least most Open
 
 -- what `latency` may answer

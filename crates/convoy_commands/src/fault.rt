@@ -441,6 +441,7 @@ fn trace_row(fault: TraceFault) -> (u8, &'static str, FaultEnding)
             "times finer than 1/",
             FaultEnding::Number(usize::from(parts)),
         ),
+        TraceFault::NoPacket => (65, "no packet", NOTHING),
         TraceFault::Memory => (11, "out of memory", NOTHING),
     }
 }
@@ -465,6 +466,10 @@ fn trace_line_row(cause: TraceCause) -> (u8, &'static str)
         TraceCause::Stamp => (62, "no stamp in line "),
         TraceCause::Twice => (62, "event told twice in line "),
         TraceCause::Late => (63, "time over limit in line "),
+        TraceCause::Name => (64, "no name in line "),
+        TraceCause::Early => (65, "came before it was sent in line "),
+        TraceCause::TooMany => (66, "too many links in line "),
+        TraceCause::Wide => (66, "range over limit in line "),
     }
 }
 

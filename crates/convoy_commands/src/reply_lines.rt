@@ -1,10 +1,12 @@
 ghost use Rattle.std.specs.Prelude.{◌≡◌, ◌++◌, OnOk};
 ghost use Rattle.convoy_commands.specs.Ceilings.{ceiling_line};
+ghost use Rattle.convoy_commands.specs.Outsides.{outside_text};
 ghost use Rattle.convoy_commands.specs.ReplyLines.{open_line, ticks_line};
 ghost use Rattle.convoy_commands.specs.Verdicts.{verdict_text};
 
 use super::verdict::Verdict;
 use convoy_lines::push_number;
+use convoy_outside::push_percent;
 use convoy_times::{Measure, push_told};
 use std::alloc::AllocError;
 
@@ -59,6 +61,22 @@ pub(crate) fn push_verdict(
         Verdict::Beyond => push_ticks_line("beyond by", measure, least - deadline, out),
         Verdict::Undecided => Ok(out.extend_from_slice(b"undecided\n")?),
     }
+}
+
+/// Appends in at most which share of runs a packet leaves its range, in billionths, where that is known: a line that tells
+/// it in per cent (docs/FORMATS.md, "How sure ranges are"). Fails where memory runs out, and else never; a front of the line
+/// may have been appended then.
+#[tactic(auto, using(std::proofs::lemmas::List::append_assoc))]
+pub(crate) fn push_outside(outside: Option<u64>, out: &mut Vec<u8>) -> Result<(), AllocError>
+    ensures { OnOk result (out.new.items ≡ out.old.items ++ outside_text outside) }
+{
+    let Some(billionths) = outside else {
+        return Ok(());
+    };
+    out.extend_from_slice(b"a packet leaves its range in at most ")?;
+    push_percent(billionths, out)?;
+    out.extend_from_slice(b" % of runs\n")?;
+    Ok(())
 }
 
 /// Appends the line of a search that did not end: the least and the most that the greatest latency

@@ -13,6 +13,7 @@ use convoy_branch::{
     Bounds, FromAbove, Options, Outcome, Ways, lead_share, plain_share, root_from_above,
     search_alone, split_from_above,
 };
+use convoy_outside::outside_told;
 use convoy_packets::schedule_laws::fixed_order_is_order;
 use convoy_packets::{Instance, Schedule};
 use convoy_seek::seek;
@@ -39,6 +40,8 @@ pub(crate) struct Searched {
     pub measure: Option<Measure>,
     /// The deadline of its target, in ticks, where it has one.
     pub deadline: Option<u32>,
+    /// In at most how many billionths of runs a packet leaves its range, where the links of its text tell that.
+    pub outside: Option<u64>,
     /// How the search ended.
     pub outcome: Outcome,
 }
@@ -63,11 +66,13 @@ pub(crate) fn search_text<R: Threads + Wait + Sync, W: Watch + Sync>(
         instance: Instance::of(alloc, input.scenario)?,
         plain: input.plain,
     };
+    let outside = outside_told(&input.shares, &read.instance);
     let outcome = search_instance(rt, alloc, &read.instance, options, watch)?;
     Ok(Searched {
         read,
         measure,
         deadline,
+        outside,
         outcome,
     })
 }

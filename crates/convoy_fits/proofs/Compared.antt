@@ -43,7 +43,32 @@ earlier_holds P (Some x) (Some y) ha hb = elim (cases_Bool (nat_lt (time_of y) (
   | inr isnt ↦ rw isnt ha
 ]
 
+same_time : (t : ℕ) → t ≤ t
+same_time t = omega arith
+
+-- what the first of two is not before, neither is before
+earlier_least : (t : ℕ) (a b : Option Departure) → IfSome (earlier a b) (λ d. t ≤ time_of d) → IfSome a (λ d. t ≤ time_of d) × IfSome b (λ d. t ≤ time_of d)
+earlier_least t None b h = (tt, h)
+earlier_least t (Some x) None h = (h, tt)
+earlier_least t (Some x) (Some y) h = elim (cases_Bool (nat_lt (time_of y) (time_of x))) [
+  | inl is ↦ let low = rw is at h in (grind (arith, nat_tests), low)
+  | inr isnt ↦ let low = rw isnt at h in (low, grind (arith, nat_tests))
+]
+
+some_least : (known : Option Departure) (d : Departure) → known ≡ Some d → IfSome known (λ k. time_of d ≤ time_of k)
+some_least None d e = absurd cc
+some_least (Some k) d e = let same : k ≡ d = cc in rw same (same_time (time_of d))
+
 module _ (scenario : Scenario) (schedule : Schedule) (run : Run) (network : Bool) where
+  -- no departure comes before the first
+  pub first_least : (known : Option Departure) (told : List Told) (d : Departure) → first_departure scenario schedule run network known told ≡ Some d
+      → IfSome known (λ k. time_of d ≤ time_of k) × All (λ one. IfSome (departure_of_kind scenario schedule run network one) (λ k. time_of d ≤ time_of k)) told
+  first_least known [] d e = (some_least known d e, All-nil (λ one. IfSome (departure_of_kind scenario schedule run network one) (λ k. time_of d ≤ time_of k)))
+  first_least known (one ∷ told) d e =
+      let rest = first_least (earlier known (departure_of_kind scenario schedule run network one)) told d e in
+      let both = earlier_least (time_of d) known (departure_of_kind scenario schedule run network one) rest.0 in
+      (both.0, All-cons (λ one. IfSome (departure_of_kind scenario schedule run network one) (λ k. time_of d ≤ time_of k)) one told both.1 rest.1)
+
   pub first_none : (known : Option Departure) (told : List Told) → first_departure scenario schedule run network known told ≡ None
       → (known ≡ None) × All (λ one. departure_of_kind scenario schedule run network one ≡ None) told
   first_none known [] e = (e, All-nil (λ one. departure_of_kind scenario schedule run network one ≡ None))

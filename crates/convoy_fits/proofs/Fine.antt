@@ -124,6 +124,12 @@ module _ (factor : ℕ) (scenario finer : Scenario) (holds : is_finer factor sce
   pub time_is_real : finer.time ≡ Real
   time_is_real = real_is finer.time parts.0
 
+  pub target_message_kept : finer.target_message ≡ scenario.target_message
+  target_message_kept = eqb-true finer.target_message scenario.target_message parts.6
+
+  pub target_group_kept : finer.target_group ≡ scenario.target_group
+  target_group_kept = eqb-true finer.target_group scenario.target_group parts.7
+
   pub finer_from : IsFiner factor scenario finer
   finer_from =
       let zipped = finer_messages factor scenario.multicasts finer.multicasts parts.4 in
@@ -132,8 +138,8 @@ module _ (factor : ℕ) (scenario finer : Scenario) (holds : is_finer factor sce
         groups = eqb-true (length finer.groups) (length scenario.groups) parts.2;
         messages = zipped;
         ranges = λ packet sent travels. range_in factor scenario finer packet parts.5 (sent_same factor scenario finer zipped packet travels sent);
-        target_message = eqb-true finer.target_message scenario.target_message parts.6;
-        target_group = eqb-true finer.target_group scenario.target_group parts.7;
+        target_message = target_message_kept;
+        target_group = target_group_kept;
       }
 
   pub real_run : (schedule : Schedule) → IsScenario finer → IsAssignment finer schedule → IsRealRun factor scenario finer schedule

@@ -1,6 +1,6 @@
 -- What the verdict by a run says.
 use Rattle.std.proofs.Common.{◌≡◌, ◌⊎◌, ℕ, ◌+◌, ◌<◌, ◌≤◌, ◌==◌, leb-true, Bool, true, false, ◌||◌, length, get_or, Option, Some, None, is_some, refl, ap, sym, ◌∙◌, inl, inr, arith}
-use Rattle.std.specs.Prelude.{All, Contains, IfSome, IsTrue, nat_le, nat_lt, unwrap_or, option_map}
+use Rattle.std.specs.Prelude.{All, Contains, IfSome, nat_le, nat_lt, unwrap_or, option_map}
 use Rattle.std.specs.Option.{option_map_or}
 use Rattle.std.specs.List.{list_all}
 use Rattle.std.proofs.lemmas.Bool.{and_parts, cases_Bool, eq-eqb, eqb-true, false≢true}
@@ -24,10 +24,10 @@ use Rattle.convoy_traces.specs.Traces.{Trace}
 use Rattle.convoy_fits.specs.declared.departure.Departure.{Departure}
 use Rattle.convoy_fits.specs.declared.departure.Departure.TheVariants as departures
 use Rattle.convoy_fits.specs.Runs.{IsDone, agrees, goes_there, is_there, moment_of, stamp_of}
-use Rattle.convoy_fits.specs.Fits.{NoneIsMissing, end_of, time_told}
-use Rattle.convoy_fits.specs.Departures.{IsAsTold, IsOtherwise, is_network}
-use Rattle.convoy_fits.specs.Tests.{departure_at, departure_in, departure_of_kind, first_departure, first_missing_from, missing_at, moment_in, or_else, stamp_departure, stamp_in}
-use Rattle.convoy_fits.proofs.Compared.{first_none, first_some, messages_none, messages_some}
+use Rattle.convoy_fits.specs.Fits.{NoneIsMissing, end_of, target_told, time_told}
+use Rattle.convoy_fits.specs.Departures.{IsAsTold, IsAsToldBefore, IsLedThere, IsOtherwise, is_network}
+use Rattle.convoy_fits.specs.Tests.{departure_at, departure_in, departure_of_kind, first_departure, first_missing_from, missing_at, moment_in, or_else, stamp_departure, stamp_in, time_of}
+use Rattle.convoy_fits.proofs.Compared.{first_least, first_none, first_some, messages_none, messages_some}
 
 agrees_none : (told : Option Stamp) → agrees told None ≡ true
 agrees_none None = refl
@@ -67,9 +67,15 @@ neither false b e = (refl, e)
 above : (a b : ℕ) → nat_le a b ≡ false → b < a
 above a b e = grind (arith, nat_tests)
 
-pub late_from : (o : Option ℕ) (a b : ℕ) → IfSome o (λ l. l ≡ a) → a ≡ b → IfSome o (λ l. l ≡ b)
-late_from None a b h e = h
-late_from (Some l) a b h e = h ∙ e
+either : (o : Option Departure) → (o ≡ None) ⊎ ((d : Departure) × (o ≡ Some d))
+either None = inl refl
+either (Some d) = inr (d, refl)
+
+-- the latency that is told where the delivery of the target is, which is the same in fine ticks
+pub late_from : (scenario finer : Scenario) (trace : Trace) (a b : ℕ) (latency : Option ℕ) → finer.target_message ≡ scenario.target_message
+    → finer.target_group ≡ scenario.target_group → latency ≡ option_map (λ time. a) (target_told finer trace) → a ≡ b
+    → latency ≡ option_map (λ time. b) (target_told scenario trace)
+late_from scenario finer trace a b latency message group told e = rw (← message, ← group, ← e) told
 
 module _ (finer : Scenario) (schedule : Schedule) (run : Run) (is : IsRunOf finer schedule run) where
   moment_told : (m : ℕ) (event : Event) → goes_there finer m event ≡ true → moment_in finer schedule run m event ≡ moment_of finer schedule m event
@@ -112,7 +118,27 @@ module _ (finer : Scenario) (schedule : Schedule) (run : Run) (is : IsRunOf fine
       | inr other ↦ absurd (let h = rw other at none in cc h)
     ]
 
-    pub otherwise_at : (trace : Trace) (d : Departure) → Contains trace.told one → (IsTrue (is_network one.event)) ⊎ IsAsTold finer schedule trace
+    pub departure_time : (d : Departure) → departure_at finer schedule run one ≡ Some d → time_of d ≡ one.time
+    departure_time d some = elim (cases_Bool (moment_in finer schedule run one.message one.event == one.time)) [
+      | inl then ↦
+          let h = rw then at some in
+          let s = stamp_some one (stamp_of finer schedule one.message one.event) d (rw stamp_is at h) in
+          rw (← s.3) refl
+      | inr other ↦
+          let h = rw other at some in
+          let same : departures.Moment one (moment_in finer schedule run one.message one.event) ≡ d = cc h in
+          rw (← same) refl
+    ]
+
+    pub least_at : (d e : Departure) → is_network one.event ≡ true → IfSome (departure_of_kind finer schedule run true one) (λ k. time_of d ≤ time_of k)
+        → departure_at finer schedule run one ≡ Some e → time_of d ≤ one.time
+    least_at d e net least some =
+        let h = rw net at least in
+        let low : time_of d ≤ time_of e = rw some at h in
+        let at = departure_time e some in
+        omega arith
+
+    pub otherwise_at : (trace : Trace) (d : Departure) → Contains trace.told one → IsLedThere finer schedule trace one
         → departure_at finer schedule run one ≡ Some d → IsOtherwise finer schedule trace d
     otherwise_at trace d listed kept some = elim (cases_Bool (moment_in finer schedule run one.message one.event == one.time)) [
       | inl then ↦
@@ -138,6 +164,13 @@ module _ (finer : Scenario) (schedule : Schedule) (run : Run) (is : IsRunOf fine
     as_told : All (λ one. departure_of_kind finer schedule run true one ≡ None) trace.told → IsAsTold finer schedule trace
     as_told none = λ k d within. λ net.
         (done_at (get_or trace.told k d) (all_there k d within) (none_network (get_or trace.told k d) (none k d within) net)).moment
+
+    as_told_before : (time : ℕ) (d : Departure) → time_of d ≡ time → All (λ one. IfSome (departure_of_kind finer schedule run true one) (λ k. time_of d ≤ time_of k)) trace.told
+        → IsAsToldBefore time finer schedule trace
+    as_told_before time d at least = λ k e within. λ net soon. elim (either (departure_at finer schedule run (get_or trace.told k e))) [
+      | inl none ↦ (done_at (get_or trace.told k e) (all_there k e within) none).moment
+      | inr some ↦ absurd (let low = least_at (get_or trace.told k e) (all_there k e within) d some.0 net (least k e within) some.1 in omega arith)
+    ]
 
     all_done : All (λ one. departure_of_kind finer schedule run true one ≡ None) trace.told → All (λ one. departure_of_kind finer schedule run false one ≡ None) trace.told
         → All (IsDone finer schedule) trace.told
@@ -204,7 +237,9 @@ module _ (finer : Scenario) (schedule : Schedule) (run : Run) (is : IsRunOf fine
             | inl nothing ↦ absurd (cc nothing)
             | inr here ↦
                 let n = of_network here.0 d here.2 in
-                otherwise_at here.0 (there_if_listed here.0 here.1) trace d here.1 (inl n.0) n.1
+                let there_it_is = there_if_listed here.0 here.1 in
+                let before = as_told_before here.0.time d (departure_time here.0 there_it_is d n.1) (first_least finer schedule run true None trace.told d network).1 in
+                otherwise_at here.0 there_it_is trace d here.1 (inl (n.0, before)) n.1
           ]
           | inr rest ↦
               let kept = as_told (first_none finer schedule run true None trace.told rest.0).1 in

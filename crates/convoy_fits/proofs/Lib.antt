@@ -3,3 +3,4 @@ pub mod Lengths
 pub mod Compared
 pub mod Judged
 pub mod Outside
+pub mod Skewed

@@ -4,10 +4,12 @@ pub use Rattle.convoy_packets.specs.Assignment
 pub use Rattle.convoy_sim.specs.Greatest
 pub use Rattle.convoy_laws.specs.FinerTicks
 pub use Rattle.convoy_traces.specs.Traces
--- what a reader has to believe: what real runs are, when a trace fits, and when it departs
+-- what a reader has to believe: what real runs are, what clocks tell, when a trace fits, when it departs, and which are judged
 pub mod Runs
+pub mod Skews
 pub mod Fits
 pub mod Departures
+pub mod Limits
 pub mod Answers
 -- how both are tested
 pub mod Finer

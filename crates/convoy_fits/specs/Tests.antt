@@ -1,5 +1,5 @@
 -- What is compared with a trace of what a run tells.
-use Rattle.std.specs.Prelude.{ℕ, zero, suc, ◌+◌, ◌==◌, nat_le, nat_lt, Bool, true, false, ◌||◌, if◌then◌else◌, List, [], ◌∷◌, Option, Some, None, is_some, unwrap_or, option_map, length}
+use Rattle.std.specs.Prelude.{ℕ, zero, suc, ◌+◌, ◌*◌, ◌==◌, min, nat_le, nat_lt, Bool, true, false, ◌&&◌, ◌||◌, if◌then◌else◌, List, [], ◌∷◌, Option, Some, None, is_some, unwrap_or, option_map, length}
 use Rattle.std.specs.Option.{option_map_or}
 use Rattle.convoy_scenario.specs.Scenario.{Scenario, message_at}
 use Rattle.convoy_packets.specs.declared.packet.Packet.TheVariants.{Propose}
@@ -15,6 +15,11 @@ use Rattle.convoy_fits.specs.declared.departure.Departure.TheVariants as departu
 use Rattle.convoy_fits.specs.Runs.{agrees}
 use Rattle.convoy_fits.specs.Fits.{end_of, time_told}
 use Rattle.convoy_fits.specs.Departures.{is_network}
+use Rattle.convoy_fits.specs.Skews.{is_since, teller_of}
+use Rattle.convoy_fits.specs.declared.teller.Teller.{Teller}
+use Rattle.convoy_fits.specs.declared.teller.Teller.TheVariants as tellers
+use Rattle.convoy_traces.specs.declared.fault.TheConstants.{LAST_TIME}
+use Rattle.std.proofs.Common.{get_or}
 
 -- the moment of an event as a run tells it
 abbrev pub moment_in : Scenario → Schedule → Run → ℕ → Event → ℕ
@@ -95,3 +100,18 @@ abbrev pub departure_in : Scenario → Schedule → Run → List Told → Option
 departure_in scenario schedule run told =
     or_else (first_departure scenario schedule run true None told)
     (first_missing_from scenario run told (first_departure scenario schedule run false None told) (length scenario.multicasts) 0)
+
+-- lags of clocks: of groups, and of clients by the messages that they issue
+pub record LagLists : Type 0 where
+  pub skew : ℕ
+  pub groups : List ℕ
+  pub clients : List ℕ
+
+-- the lag of a clock; none is more than the skew allows
+abbrev pub lag_by : LagLists → Teller → ℕ
+lag_by lags (tellers.Group g) = min (get_or lags.groups g 0) (2 * lags.skew)
+lag_by lags (tellers.Client m) = min (get_or lags.clients m 0) (2 * lags.skew)
+
+-- what is told is, by a clock that is right, within the times that may be told
+abbrev pub is_kept : ℕ → (Teller → ℕ) → Scenario → Told → Bool
+is_kept skew lag scenario one = is_since skew lag scenario one && nat_le (one.time + lag (teller_of scenario one.message one.event)) (skew + LAST_TIME)

@@ -19,11 +19,13 @@ pub enum Departure {
     Missing(usize, usize, u32),
 }
 
-/// Whether a trace fits a scenario.
+/// Whether a trace fits a scenario, by clocks that are right within a skew.
 #[derive(Clone, Copy)]
 pub enum Verdict {
-    /// It does. The latency of the target in that run, in fine ticks, where its delivery is told.
+    /// It does. The latency of the target in that run, in fine ticks, just where its delivery is told.
     Fits(Option<u32>),
-    /// It does not.
+    /// No run has done what it tells: it is outside of a window or of a range, by more than such clocks explain.
+    Outside(Departure),
+    /// It does not, with its times by clocks that are right, for one way in which its own clocks may be wrong.
     Departs(Departure),
 }

@@ -4,8 +4,9 @@ use thiserror::Error;
 /// Why a trace is not judged.
 #[derive(Clone, Copy, Debug, PartialEq, Eq, Error)]
 pub enum FitsFault {
-    /// The scenario in fine ticks is beyond the limits of scenarios, or the trace is one of another scenario.
-    #[error("the scenario in the fine ticks of the trace is beyond the limits: drop digits, or tell when each message was issued")]
+    /// The scenario is beyond the limits of scenarios in the fine ticks of the trace: a message is issued later, or D is
+    /// greater, than they allow. Or the trace is one of another scenario.
+    #[error("the scenario in the fine ticks of the trace is beyond the limits: drop digits, or count from a later start")]
     Limits,
     /// Memory ran out, which says nothing of the trace.
     #[error("out of memory")]

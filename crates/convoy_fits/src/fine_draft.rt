@@ -2,6 +2,7 @@
 
 ghost use Rattle.std.specs.Prelude.{◌<◌, length};
 
+use super::corrected::Corrected;
 use super::told_times::time_told;
 use convoy_draft::{AllocResult, DraftLink, DraftMulticast, DraftScenario, Name, Time};
 use convoy_scenario::lookup::window;
@@ -9,12 +10,12 @@ use convoy_scenario::naming::{
     draft_destinations, draft_group, draft_groups, draft_sender, message_name,
 };
 use convoy_scenario::{GREATEST_AT, Scenario, Sender, is_same_sender};
-use convoy_traces::{Event, Told, Trace};
+use convoy_traces::{Event, Told};
 use std::alloc::Global;
 
 /// Of the arrivals of a message the earliest that is told, less the least that its packet takes; the last time where
 /// none is told.
-fn latest_issue(scenario: &Scenario, trace: &Trace, message: usize, last: i64) -> i64 {
+fn latest_issue(scenario: &Scenario, trace: &Corrected, message: usize, last: i64) -> i64 {
     let mut latest = last;
     for one in trace.told() {
         if one.message == message
@@ -27,7 +28,7 @@ fn latest_issue(scenario: &Scenario, trace: &Trace, message: usize, last: i64) -
 }
 
 /// When at the latest a message was issued that arrives then.
-fn issued_before(scenario: &Scenario, trace: &Trace, one: &Told, to: usize) -> i64 {
+fn issued_before(scenario: &Scenario, trace: &Corrected, one: &Told, to: usize) -> i64 {
     let sender = convoy_scenario::lookup::sender_of(scenario, one.message);
     if is_same_sender(sender, Sender::Group(to)) {
         return i64::from(one.time);
@@ -38,7 +39,7 @@ fn issued_before(scenario: &Scenario, trace: &Trace, one: &Told, to: usize) -> i
 
 /// When a message is issued in fine ticks: when it is told, or else at the last time in its window at which its arrivals
 /// allow it.
-fn issue_in(scenario: &Scenario, trace: &Trace, message: usize) -> i64 {
+fn issue_in(scenario: &Scenario, trace: &Corrected, message: usize) -> i64 {
     if let Some(time) = time_told(trace.told(), message, Event::Issue) {
         return i64::from(time);
     }
@@ -52,7 +53,7 @@ fn issue_in(scenario: &Scenario, trace: &Trace, message: usize) -> i64 {
 fn fine_message(
     alloc: Global,
     scenario: &Scenario,
-    trace: &Trace,
+    trace: &Corrected,
     message: usize,
 ) -> AllocResult<DraftMulticast>
     requires { message < length scenario.now.multicasts }
@@ -71,7 +72,7 @@ fn fine_message(
 fn fine_messages(
     alloc: Global,
     scenario: &Scenario,
-    trace: &Trace,
+    trace: &Corrected,
 ) -> AllocResult<Vec<DraftMulticast>> {
     let mut messages = Vec::new(alloc);
     for message in 0..scenario.message_count() {
@@ -128,7 +129,7 @@ fn fine_links(alloc: Global, scenario: &Scenario, factor: u16) -> AllocResult<Ve
 pub(crate) fn fine_draft(
     alloc: Global,
     scenario: &Scenario,
-    trace: &Trace,
+    trace: &Corrected,
 ) -> AllocResult<DraftScenario> {
     let factor = trace.factor();
     Ok(DraftScenario {

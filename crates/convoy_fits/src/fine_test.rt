@@ -8,13 +8,13 @@ ghost use Rattle.convoy_packets.specs.Packets.{packets_of};
 ghost use Rattle.convoy_fits.specs.Finer.{are_finer_messages, has_finer_range, is_finer, is_finer_message, is_real};
 ghost use Rattle.convoy_fits.specs.Runs.{goes_there, is_there};
 
-use super::fault::FitsFault;
+use super::corrected::Corrected;
 use super::fine_draft::fine_draft;
 use super::network::{is_addressed, range_of};
 use convoy_packets::{Instance, Packet};
-use convoy_scenario::{Scenario, ScenarioFault, Time, is_same_sender};
-use convoy_traces::{Event, Told, Trace};
-use std::alloc::Global;
+use convoy_scenario::{Scenario, Time, is_same_sender};
+use convoy_traces::{Event, Told};
+use std::alloc::{AllocError, Global};
 
 /// Whether time is real.
 fn is_real(time: Time) -> bool
@@ -102,10 +102,9 @@ fn is_finer(factor: u16, scenario: &Scenario, finer: &Instance) -> bool
 }
 
 /// Whether the message goes to the groups of the event.
-fn goes_there(finer: &Instance, message: usize, event: Event) -> bool
-    ensures { result ≡ goes_there finer.now message event }
+fn goes_there(scenario: &Scenario, message: usize, event: Event) -> bool
+    ensures { result ≡ goes_there scenario.now message event }
 {
-    let scenario = finer.scenario();
     match event {
         Event::Issue => true,
         Event::Arrival(group) => is_addressed(scenario, message, group),
@@ -118,10 +117,10 @@ fn goes_there(finer: &Instance, message: usize, event: Event) -> bool
 }
 
 /// Whether what is told is of a message of the scenario, at groups that it goes to.
-fn is_there(finer: &Instance, one: &Told) -> bool
-    ensures { result ≡ is_there finer.now one.now }
+pub(crate) fn is_there(scenario: &Scenario, one: &Told) -> bool
+    ensures { result ≡ is_there scenario.now one.now }
 {
-    one.message < finer.message_count() && goes_there(finer, one.message, one.event)
+    one.message < scenario.message_count() && goes_there(scenario, one.message, one.event)
 }
 
 /// Whether all that is told is of messages of the scenario, at groups that they go to.
@@ -129,31 +128,31 @@ fn are_there(finer: &Instance, told: &[Told]) -> bool
     ensures { result ≡ list_all (is_there finer.now) told.now }
 {
     for one in told {
-        if !is_there(finer, one) {
+        if !is_there(finer.scenario(), one) {
             return false;
         }
     }
     true
 }
 
-/// The scenario in fine ticks, with each message issued when the trace tells it.
+/// The scenario in fine ticks, with each message issued when the trace tells it. Fails where memory runs out; a trace that
+/// is within the limits gives no other cause.
 pub(crate) fn finer_of(
     alloc: Global,
     scenario: &Scenario,
-    trace: &Trace,
-) -> Result<Instance, FitsFault>
+    trace: &Corrected,
+) -> Result<Instance, AllocError>
     ensures finer { IfOk result (λ finer. IsTrue (is_finer trace.now.factor scenario.now finer)) }
     ensures there { IfOk result (λ finer. IsTrue (list_all (is_there finer) trace.now.told)) }
 {
     let draft = fine_draft(alloc, scenario, trace)?;
     let finer = match Scenario::from_draft(alloc, draft) {
         Ok(finer) => Instance::of(alloc, finer)?,
-        Err(ScenarioFault::Memory) => return Err(FitsFault::Memory),
-        Err(_) => return Err(FitsFault::Limits),
+        Err(_) => return Err(AllocError),
     };
     if is_finer(trace.factor(), scenario, &finer) && are_there(&finer, trace.told()) {
         Ok(finer)
     } else {
-        Err(FitsFault::Limits)
+        Err(AllocError)
     }
 }

@@ -1,23 +1,25 @@
 //! Packets that took longer, or less, than they may, and issues outside their windows.
 
-ghost use Rattle.std.specs.Prelude.{◌≡◌, Some, IfSome};
+ghost use Rattle.std.specs.Prelude.{◌≡◌, ◌≤◌, ◌*◌, Some, IfSome};
 ghost use Rattle.convoy_scenario.specs.Scenario.{is_addressed, message_at, window_of};
 ghost use Rattle.convoy_packets.specs.Assignment.{range_of};
 ghost use Rattle.convoy_packets.specs.ScheduleLaws.{is_sent};
 ghost use Rattle.convoy_traces.specs.declared.told.Event.TheVariants.{Issue};
 ghost use Rattle.convoy_fits.specs.Fits.{time_told};
-ghost use Rattle.convoy_fits.specs.Departures.{IsOutside, comes_as, fine_range, in_fine_ticks, message_of, sent_by};
+ghost use Rattle.convoy_fits.specs.Departures.{IsOutside, comes_as, explained, fine_range, in_fine_ticks, message_of, sent_by};
 
 use super::comparing::earlier;
+use super::corrected::Corrected;
 use super::departure::Departure;
+use super::teller::{is_same_teller, teller_of};
 use super::told_times::time_told;
 use convoy_packets::Packet;
 use convoy_scenario::lookup::{longest_wait, may_wait, sender_of, window};
 use convoy_scenario::{Scenario, Sender, is_same_sender};
-use convoy_traces::{Event, Told, Trace};
+use convoy_traces::{Event, Told};
 
 /// A range in fine ticks.
-fn in_fine_ticks(factor: u16, range: (u32, u32)) -> (u64, u64)
+pub(crate) fn in_fine_ticks(factor: u16, range: (u32, u32)) -> (u64, u64)
     ensures { result ≡ in_fine_ticks factor range }
 {
     let factor = u64::from(factor);
@@ -64,7 +66,7 @@ pub(crate) fn range_of(scenario: &Scenario, packet: Packet) -> (u16, u16)
 }
 
 /// What a packet may take, in fine ticks; what a place sends itself takes no time.
-fn fine_range(factor: u16, scenario: &Scenario, packet: Packet) -> (u64, u64)
+pub(crate) fn fine_range(factor: u16, scenario: &Scenario, packet: Packet) -> (u64, u64)
     ensures { result ≡ fine_range factor scenario.now packet }
 {
     if is_sent(scenario, packet) {
@@ -75,13 +77,19 @@ fn fine_range(factor: u16, scenario: &Scenario, packet: Packet) -> (u64, u64)
     }
 }
 
-/// The issue of a message, where it is told outside of its window.
-fn outside_window(scenario: &Scenario, trace: &Trace, message: usize) -> Option<Departure>
-    ensures { IfSome result (IsOutside scenario.now trace.now) }
+/// The issue of a message, where it is told outside of its window by more than the skew.
+fn outside_window(
+    scenario: &Scenario,
+    trace: &Corrected,
+    skew: u32,
+    message: usize,
+) -> Option<Departure>
+    ensures { IfSome result (IsOutside skew scenario.now trace.now) }
 {
     let time = time_told(trace.told(), message, Event::Issue)?;
     let (first, last) = in_fine_ticks(trace.factor(), window(scenario, message));
-    if u64::from(time) < first || last < u64::from(time) {
+    let slack = u64::from(skew);
+    if u64::from(time) + slack < first || last + slack < u64::from(time) {
         Some(Departure::Window(message, time, first, last))
     } else {
         None
@@ -121,45 +129,69 @@ fn message_of(packet: Packet) -> usize
     }
 }
 
-/// The packet, where it is told to have taken longer than it may, or less.
-fn outside_range(scenario: &Scenario, trace: &Trace, packet: Packet) -> Option<Departure>
-    ensures { IfSome result (IsOutside scenario.now trace.now) }
+/// How much of what a packet takes clocks may explain that are right within the skew, in fine ticks: twice the skew, and
+/// nothing where one clock tells both when it was sent and when it came.
+pub fn explained(skew: u32, scenario: &Scenario, packet: Packet) -> u64
+    ensures value { result ≡ explained skew scenario.now packet }
+    ensures bounded { result ≤ 2 * skew }
+{
+    let message = message_of(packet);
+    let sender = teller_of(scenario, message, sent_by(packet));
+    let receiver = teller_of(scenario, message, comes_as(packet));
+    if is_same_teller(sender, receiver) {
+        0
+    } else {
+        2 * u64::from(skew)
+    }
+}
+
+/// The packet, where it is told to have taken longer than it may, or less, by more than clocks explain.
+fn outside_range(
+    scenario: &Scenario,
+    trace: &Corrected,
+    skew: u32,
+    packet: Packet,
+) -> Option<Departure>
+    ensures { IfSome result (IsOutside skew scenario.now trace.now) }
 {
     let told = trace.told();
     let sent = time_told(told, message_of(packet), sent_by(packet))?;
     let came = time_told(told, message_of(packet), comes_as(packet))?;
     let (least, most) = fine_range(trace.factor(), scenario, packet);
+    let slack = u128::from(explained(skew, scenario, packet));
     let (since, at) = (u128::from(sent), u128::from(came));
-    if at < since + u128::from(least) || since + u128::from(most) < at {
+    if at + slack < since + u128::from(least) || since + u128::from(most) + slack < at {
         Some(Departure::Packet(packet, sent, came, least, most))
     } else {
         None
     }
 }
 
-/// What is told of an event of the network, where it is outside of a window or of a range.
-fn outside_at(scenario: &Scenario, trace: &Trace, one: &Told) -> Option<Departure>
-    ensures { IfSome result (IsOutside scenario.now trace.now) }
+/// What is told of an event of the network, where it is outside of a window or of a range by more than clocks explain.
+fn outside_at(scenario: &Scenario, trace: &Corrected, skew: u32, one: &Told) -> Option<Departure>
+    ensures { IfSome result (IsOutside skew scenario.now trace.now) }
 {
     let message = one.message;
     match one.event {
-        Event::Issue => outside_window(scenario, trace, message),
-        Event::Arrival(to) => outside_range(scenario, trace, Packet::Multicast { message, to }),
+        Event::Issue => outside_window(scenario, trace, skew, message),
+        Event::Arrival(to) => {
+            outside_range(scenario, trace, skew, Packet::Multicast { message, to })
+        }
         Event::Proposal(to, from) => {
-            outside_range(scenario, trace, Packet::Propose { message, from, to })
+            outside_range(scenario, trace, skew, Packet::Propose { message, from, to })
         }
         Event::Commit(_) => None,
         Event::Delivery(_) => None,
     }
 }
 
-/// The first of what is told outside of a window or of a range.
-pub(crate) fn first_outside(scenario: &Scenario, trace: &Trace) -> Option<Departure>
-    ensures { IfSome result (IsOutside scenario.now trace.now) }
+/// The first of what is told outside of a window or of a range, by more than clocks explain that are right within the skew.
+pub(crate) fn first_outside(scenario: &Scenario, trace: &Corrected, skew: u32) -> Option<Departure>
+    ensures { IfSome result (IsOutside skew scenario.now trace.now) }
 {
     let mut known = None;
     for one in trace.told() {
-        known = earlier(known, outside_at(scenario, trace, one));
+        known = earlier(known, outside_at(scenario, trace, skew, one));
     }
     known
 }

@@ -54,38 +54,63 @@ const WORST: &str = "event,message,group,from,time,stamp\n\
     commit,t,a,,6,2.b\ncommit,y,a,,12,3.b\n\
     delivery,x,b,,3,1.b\ndelivery,t,b,,6,2.b\ndelivery,y,b,,9,3.b\n";
 
-/// What is judged of the worst run with these lines below.
-fn judged(alloc: Global, lines: &str) -> Result<Verdict, Fail> {
+/// What is judged of a run with these lines below, by clocks that are right within the skew.
+fn judged(alloc: Global, run: &str, lines: &str, skew: u32) -> Result<Verdict, Fail> {
     let scenario = base(alloc)?;
     let clock = Clock {
         tick: 1_000_000_000,
         unit: None,
     };
-    let mut text = String::from_str(alloc, WORST)?;
+    let mut text = String::from_str(alloc, run)?;
     text.push_str(lines)?;
     let trace = trace_of_text(alloc, &scenario, clock, text.as_str().as_bytes())?;
-    Ok(judge(alloc, &scenario, &trace)?)
+    Ok(judge(alloc, &scenario, &trace, skew)?)
 }
 
 #[test]
 fn worst_run_fits(rt: HostRuntime) -> Result<(), Fail> {
     let lines = "delivery,t,a,,12,2.b\ndelivery,y,a,,12,3.b\n";
-    let verdict = judged(rt.alloc(), lines)?;
+    let verdict = judged(rt.alloc(), WORST, lines, 0)?;
     assert!(rt; matches!(&verdict, Verdict::Fits(Some(12))));
     Ok(())
 }
 
 #[test]
 fn run_that_ends_early_fits(rt: HostRuntime) -> Result<(), Fail> {
-    let verdict = judged(rt.alloc(), "")?;
+    let verdict = judged(rt.alloc(), WORST, "", 0)?;
     assert!(rt; matches!(&verdict, Verdict::Fits(None)));
+    Ok(())
+}
+
+/// The same worst run by the clock of b, which is a fine tick ahead: what comes to b comes so, and what it sends.
+const AHEAD: &str = "event,message,group,from,time,stamp\n\
+    issue,x,,,0,\nissue,t,,,0,\nissue,y,,,6,\n\
+    arrival,x,b,,4,1.b\narrival,t,b,,4,2.b\narrival,t,a,,3,1.a\n\
+    proposal,t,a,b,6,2.b\nproposal,t,b,a,7,1.a\n\
+    arrival,y,a,,6,2.a\narrival,y,b,,10,3.b\n\
+    proposal,y,a,b,12,3.b\nproposal,y,b,a,10,2.a\n\
+    commit,t,a,,6,2.b\ncommit,y,a,,12,3.b\n\
+    delivery,x,b,,4,1.b\ndelivery,t,b,,7,2.b\ndelivery,y,b,,10,3.b\n\
+    delivery,t,a,,12,2.b\ndelivery,y,a,,12,3.b\n";
+
+#[test]
+fn run_by_a_clock_that_is_ahead_fits_within_as_much(rt: HostRuntime) -> Result<(), Fail> {
+    let verdict = judged(rt.alloc(), AHEAD, "", 1)?;
+    assert!(rt; matches!(&verdict, Verdict::Fits(Some(12))));
+    Ok(())
+}
+
+#[test]
+fn run_by_a_clock_that_is_ahead_departs_without_a_skew(rt: HostRuntime) -> Result<(), Fail> {
+    let verdict = judged(rt.alloc(), AHEAD, "", 0)?;
+    assert!(rt; matches!(&verdict, Verdict::Outside(Departure::Packet(_, 0, 4, 1, 3))));
     Ok(())
 }
 
 #[test]
 fn delivery_before_a_lesser_stamp_departs(rt: HostRuntime) -> Result<(), Fail> {
     let lines = "delivery,t,a,,6,2.b\ndelivery,y,a,,12,3.b\n";
-    let verdict = judged(rt.alloc(), lines)?;
+    let verdict = judged(rt.alloc(), WORST, lines, 0)?;
     let departs = match verdict {
         Verdict::Departs(Departure::Moment(one, moment)) => {
             one.message == 1

@@ -1,17 +1,27 @@
 -- The words of a verdict on a trace.
-use Rattle.std.specs.Prelude.{ℕ, ◌-◌, ◌==◌, min, nat_lt, if◌then◌else◌, List, [], ◌∷◌, ◌++◌, codes, Option, Some, None}
+use Rattle.std.specs.Prelude.{ℕ, ◌-◌, ◌==◌, min, nat_lt, Bool, true, false, if◌then◌else◌, List, [], ◌∷◌, ◌++◌, codes, count_by, decimal, length, sum_by, Option, Some, None}
 use Rattle.convoy_scenario.specs.Scenario.{Scenario, group_name_at, message_at, window_of}
 use Rattle.convoy_packets.specs.declared.packet.Packet.{Packet}
 use Rattle.convoy_timeline.specs.Explanations.{stamp_text}
 use Rattle.convoy_timeline.specs.PacketLists.{packet_text}
 use Rattle.convoy_traces.specs.declared.told.Event.{Event}
 use Rattle.convoy_traces.specs.declared.told.Event.TheVariants.{Issue, Arrival, Proposal, Commit, Delivery}
+use Rattle.convoy_traces.specs.Traces.{Trace}
+use Rattle.convoy_fits.specs.Departures.{explained}
 use Rattle.convoy_fits.specs.declared.departure.Departure.{Departure}
 use Rattle.convoy_fits.specs.declared.departure.Departure.TheVariants as departures
 use Rattle.convoy_fits.specs.declared.departure.Verdict.{Verdict}
 use Rattle.convoy_fits.specs.declared.departure.Verdict.TheVariants as verdicts
 use Rattle.convoy_fits_told.specs.declared.scale.Scale.{Scale}
 use Rattle.convoy_fits_told.specs.Scales.{told_in_fine_ticks, told_in_ticks}
+
+-- the event is a delivery
+abbrev pub is_delivery : Event → Bool
+is_delivery Issue = false
+is_delivery (Arrival g) = false
+is_delivery (Proposal g h) = false
+is_delivery (Commit g) = false
+is_delivery (Delivery g) = true
 
 -- a number of fine ticks as it is told: none that are told are greater than that
 abbrev pub told_by : ℕ → ℕ
@@ -80,12 +90,51 @@ departure_text scale scenario (departures.Moment one moment) = moment_text scale
 departure_text scale scenario (departures.Stamp one stamp) = other_stamp_text scale scenario one.message one.event one.time (stamp_text scenario stamp)
 departure_text scale scenario (departures.Missing m g tick) = missing_text scale scenario m g tick
 
--- the latency of the target, where it is known
-unfoldable pub latency_text : Scale → ℕ → List ℕ
-latency_text scale latency = codes "fits\nlatency " ++ (told_in_fine_ticks scale latency ++ 10 ∷ [])
+-- how many deliveries a trace tells, each once
+abbrev pub deliveries_told : Trace → ℕ
+deliveries_told trace = count_by (λ one. is_delivery one.event) trace.told
 
--- the lines of a verdict
-abbrev pub verdict_text : Scale → Scenario → Verdict → List ℕ
-verdict_text scale scenario (verdicts.Fits None) = codes "fits\n"
-verdict_text scale scenario (verdicts.Fits (Some latency)) = latency_text scale latency
-verdict_text scale scenario (verdicts.Departs departure) = codes "departs: " ++ (departure_text scale scenario departure ++ 10 ∷ [])
+-- how many there are in a run: one of each message at each group that it goes to
+abbrev pub deliveries_of : Scenario → ℕ
+deliveries_of scenario = sum_by (λ message. length message.destinations) scenario.multicasts
+
+-- that a trace fits, and by which clocks
+unfoldable pub fits_text : Scale → ℕ → List ℕ
+fits_text scale skew = if skew == 0 then codes "fits\n" else codes "fits, with clocks within " ++ (told_in_fine_ticks scale skew ++ 10 ∷ [])
+
+-- that a trace does not tell all deliveries
+unfoldable pub unfinished_text : ℕ → ℕ → List ℕ
+unfinished_text told all =
+    if nat_lt told all then codes "unfinished: " ++ (decimal told ++ (codes " of " ++ (decimal all ++ codes " deliveries are told\n"))) else []
+
+-- the latency of the target, where it is known
+unfoldable pub latency_text : Scale → Option ℕ → List ℕ
+latency_text scale None = []
+latency_text scale (Some latency) = codes "latency " ++ (told_in_fine_ticks scale latency ++ 10 ∷ [])
+
+-- how much of what departs clocks may explain
+abbrev pub explained_of : ℕ → Scenario → Departure → ℕ
+explained_of skew scenario (departures.Window m time first last) = skew
+explained_of skew scenario (departures.Packet packet sent came least most) = explained skew scenario packet
+explained_of skew scenario (departures.Moment one moment) = 0
+explained_of skew scenario (departures.Stamp one stamp) = 0
+explained_of skew scenario (departures.Missing m g tick) = 0
+
+-- what clocks may explain of a departure that they do not explain
+unfoldable pub explained_text : Scale → ℕ → ℕ → List ℕ
+explained_text scale skew part =
+    if skew == 0 then []
+    else codes ", and clocks within " ++ (told_in_fine_ticks scale skew ++ (codes " explain " ++ (told_in_fine_ticks scale (told_by part) ++ codes " of it")))
+
+-- that a trace departs once its clocks are corrected
+unfoldable pub corrected_text : Scale → ℕ → List ℕ
+corrected_text scale skew = if skew == 0 then [] else codes ", with clocks corrected by at most " ++ told_in_fine_ticks scale skew
+
+-- the lines of a verdict by clocks that are right within a skew
+abbrev pub verdict_text : Scale → Scenario → Trace → ℕ → Verdict → List ℕ
+verdict_text scale scenario trace skew (verdicts.Fits latency) =
+    fits_text scale skew ++ (unfinished_text (deliveries_told trace) (deliveries_of scenario) ++ latency_text scale latency)
+verdict_text scale scenario trace skew (verdicts.Outside departure) =
+    codes "departs: " ++ (departure_text scale scenario departure ++ (explained_text scale skew (explained_of skew scenario departure) ++ 10 ∷ []))
+verdict_text scale scenario trace skew (verdicts.Departs departure) =
+    codes "departs: " ++ (departure_text scale scenario departure ++ (corrected_text scale skew ++ 10 ∷ []))

@@ -3,7 +3,10 @@
 
 pub use answering::fits_answer;
 pub use scale::Scale;
+pub use skew::Skew;
 
 mod answering;
+mod counting;
 mod scale;
+mod skew;
 mod words;

@@ -4,45 +4,125 @@ ghost use Rattle.std.specs.Prelude.{◌≡◌, IfOk, string_bytes};
 ghost use Rattle.convoy_traces.specs.declared.told.Event.TheVariants.{Proposal};
 ghost use Rattle.convoy_timeline.specs.PacketLists.{packet_text};
 ghost use Rattle.convoy_timeline.specs.Explanations.{stamp_text};
-ghost use Rattle.convoy_fits_told.specs.Words.{at_text, departure_text, early_text, event_text, latency_text, missing_text, moment_text, other_stamp_text, range_text, span_text, taken_text, told_by, verdict_text, window_text};
+ghost use Rattle.convoy_fits_told.specs.Words.{at_text, corrected_text, departure_text, early_text, event_text, explained_of, explained_text, fits_text, latency_text, missing_text, moment_text, other_stamp_text, range_text, span_text, taken_text, told_by, unfinished_text, verdict_text, window_text};
 
+use super::counting::{deliveries_of, deliveries_told};
 use super::scale::Scale;
-use convoy_fits::{Departure, Verdict};
+use convoy_fits::{Departure, Verdict, explained};
 use convoy_packets::Packet;
 use convoy_scenario::lookup::{sender_of, window};
 use convoy_scenario::naming::{group_name, message_name, sender_word};
 use convoy_scenario::{AllocResult, Scenario};
 use convoy_sim::Timestamp;
 use convoy_timeline::stamp_text;
-use convoy_traces::{Event, Told};
+use convoy_traces::{Event, Told, Trace};
 use std::alloc::Global;
 
-/// The lines of a verdict. Fails where memory runs out, and else never.
+/// The lines of a verdict by clocks that are right within a skew. Fails where memory runs out, and else never.
 pub(crate) fn verdict_text(
     alloc: Global,
     scale: &Scale,
     scenario: &Scenario,
+    trace: &Trace,
+    skew: u32,
     verdict: Verdict,
 ) -> AllocResult<String>
-    ensures { IfOk result (λ text. string_bytes text ≡ verdict_text scale.now scenario.now verdict) }
+    ensures { IfOk result (λ text. string_bytes text ≡ verdict_text scale.now scenario.now trace.now skew verdict) }
 {
     match verdict {
-        Verdict::Fits(None) => String::from_str(alloc, "fits\n"),
-        Verdict::Fits(Some(latency)) => latency_text(alloc, scale, latency),
+        Verdict::Fits(latency) => {
+            let first = fits_text(alloc, scale, skew)?;
+            let told = deliveries_told(trace.told());
+            let unfinished = unfinished_text(alloc, told, deliveries_of(scenario))?;
+            let latency = latency_text(alloc, scale, latency)?;
+            format!(in alloc; "{first}{unfinished}{latency}")
+        }
+        Verdict::Outside(departure) => {
+            let words = departure_text(alloc, scale, scenario, departure)?;
+            let part = explained_of(skew, scenario, departure);
+            let explained = explained_text(alloc, scale, skew, part)?;
+            format!(in alloc; "departs: {words}{explained}\n")
+        }
         Verdict::Departs(departure) => {
             let words = departure_text(alloc, scale, scenario, departure)?;
-            format!(in alloc; "departs: {words}\n")
+            let corrected = corrected_text(alloc, scale, skew)?;
+            format!(in alloc; "departs: {words}{corrected}\n")
         }
     }
 }
 
-/// That a trace fits, with the latency of the target in fine ticks.
+/// That a trace fits, and by which clocks.
+#[tactic(auto, unfolding(crate::specs::Words::fits_text))]
+fn fits_text(alloc: Global, scale: &Scale, skew: u32) -> AllocResult<String>
+    ensures { IfOk result (λ text. string_bytes text ≡ fits_text scale.now skew) }
+{
+    if skew == 0 {
+        return String::from_str(alloc, "fits\n");
+    }
+    let skew = scale.fine_text(alloc, skew)?;
+    format!(in alloc; "fits, with clocks within {skew}\n")
+}
+
+/// That a trace tells so many deliveries of more; nothing where it tells all.
+#[tactic(auto, unfolding(crate::specs::Words::unfinished_text))]
+fn unfinished_text(alloc: Global, told: usize, all: u128) -> AllocResult<String>
+    ensures { IfOk result (λ text. string_bytes text ≡ unfinished_text told all) }
+{
+    if (told as u128) < all {
+        format!(in alloc; "unfinished: {told} of {all} deliveries are told\n")
+    } else {
+        String::from_str(alloc, "")
+    }
+}
+
+/// The latency of the target in fine ticks, where it is known.
 #[tactic(auto, unfolding(crate::specs::Words::latency_text))]
-fn latency_text(alloc: Global, scale: &Scale, latency: u32) -> AllocResult<String>
+fn latency_text(alloc: Global, scale: &Scale, latency: Option<u32>) -> AllocResult<String>
     ensures { IfOk result (λ text. string_bytes text ≡ latency_text scale.now latency) }
 {
+    let Some(latency) = latency else {
+        return String::from_str(alloc, "");
+    };
     let latency = scale.fine_text(alloc, latency)?;
-    format!(in alloc; "fits\nlatency {latency}\n")
+    format!(in alloc; "latency {latency}\n")
+}
+
+/// How much of what departs clocks may explain, in fine ticks.
+fn explained_of(skew: u32, scenario: &Scenario, departure: Departure) -> u64
+    ensures { result ≡ explained_of skew scenario.now departure }
+{
+    match departure {
+        Departure::Window(_, _, _, _) => u64::from(skew),
+        Departure::Packet(packet, _, _, _, _) => explained(skew, scenario, packet),
+        Departure::Moment(_, _) => 0,
+        Departure::Stamp(_, _) => 0,
+        Departure::Missing(_, _, _) => 0,
+    }
+}
+
+/// What clocks may explain of a departure that they do not explain; nothing where they are right.
+#[tactic(auto, unfolding(crate::specs::Words::explained_text))]
+fn explained_text(alloc: Global, scale: &Scale, skew: u32, part: u64) -> AllocResult<String>
+    ensures { IfOk result (λ text. string_bytes text ≡ explained_text scale.now skew part) }
+{
+    if skew == 0 {
+        return String::from_str(alloc, "");
+    }
+    let skew = scale.fine_text(alloc, skew)?;
+    let part = scale.fine_text(alloc, told_by(part))?;
+    format!(in alloc; ", and clocks within {skew} explain {part} of it")
+}
+
+/// That a trace departs once its clocks are corrected; nothing where they are right.
+#[tactic(auto, unfolding(crate::specs::Words::corrected_text))]
+fn corrected_text(alloc: Global, scale: &Scale, skew: u32) -> AllocResult<String>
+    ensures { IfOk result (λ text. string_bytes text ≡ corrected_text scale.now skew) }
+{
+    if skew == 0 {
+        return String::from_str(alloc, "");
+    }
+    let skew = scale.fine_text(alloc, skew)?;
+    format!(in alloc; ", with clocks corrected by at most {skew}")
 }
 
 /// In what a trace departs.

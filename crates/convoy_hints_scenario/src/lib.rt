@@ -27,4 +27,5 @@ mod references;
 mod runs;
 mod scenario_hints;
 mod schedules;
+mod spans;
 mod targets;

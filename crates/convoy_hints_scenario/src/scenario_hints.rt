@@ -7,6 +7,7 @@ use super::references::{
     hint_for_double_destination, hint_for_link_to_itself, hint_for_no_destination,
     hint_for_target_not_addressed, hint_for_unknown_group, hint_for_unknown_target,
 };
+use super::spans::{hint_for_long_span, hint_for_span};
 use convoy_certificate::{Form, form_of};
 use convoy_hints_sketch::{
     Hint, Quoted, ScenarioText, Sketch, TextKind, hint_for_deadline, hint_for_mixture,
@@ -257,7 +258,7 @@ fn hint_for_times(
     }
 }
 
-/// What is wrong with a draft, or with a deadline, whose shape is told last.
+/// What is wrong with a draft, or with a deadline or a span, whose shape is told last.
 fn hint_for_draft(
     alloc: Global,
     source: ScenarioText<'_>,
@@ -268,13 +269,29 @@ fn hint_for_draft(
 ) -> Hint {
     match fault {
         ScenarioFault::NoRange => hint_for_no_range(alloc, &draft, written.delay.is_some()),
+        ScenarioFault::Shape(Key::Until) => hint_for_span(alloc, &draft, asked.around),
         ScenarioFault::Shape(_) => hint_for_deadline(alloc, source, written, &asked.at_most),
         fault => {
             let names_target = names_target(asked);
             let sketch = sketch_of_draft(alloc, source, &written.links, draft, names_target)?;
-            let hint = hint_for_sketch(alloc, &sketch, fault)?;
+            let hint = hint_for_limits(alloc, &sketch, asked, fault)?;
             with_cause(alloc, source, written, fault, hint)
         }
+    }
+}
+
+/// What is wrong with a draft that is sketched so, or where nothing is with the span that is asked for.
+fn hint_for_limits(
+    alloc: Global,
+    sketch: &Sketch<'_>,
+    asked: &Asked,
+    fault: ScenarioFault,
+) -> Hint {
+    match (hint_for_sketch(alloc, sketch, fault)?, fault) {
+        (None, ScenarioFault::OverLimit(Limit::Until)) => {
+            hint_for_long_span(alloc, sketch.draft.tick, asked.around)
+        }
+        (hint, _) => Ok(hint),
     }
 }
 

@@ -91,6 +91,17 @@ pub(crate) fn keys_of(table: ScenarioTable) -> &'static [Key] {
     }
 }
 
+/// The word of the key of a table of links that tells the share of packets outside their range.
+pub(crate) const OUTSIDE: &str = "outside";
+
+/// The words of the keys that a table may have beside these: they are no part of the scenario.
+pub(crate) fn words_beside(table: ScenarioTable) -> &'static [&'static str] {
+    match table {
+        ScenarioTable::Link(_) => &[OUTSIDE],
+        ScenarioTable::Top | ScenarioTable::Multicast(_) | ScenarioTable::Target => &[],
+    }
+}
+
 /// The keys above the first header.
 pub(crate) const TOP_KEYS: [Key; 10] = [
     Key::Time,

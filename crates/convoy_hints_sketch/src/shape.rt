@@ -1,5 +1,7 @@
 use super::durations::hint_for_duration;
-use super::fields::{Field, Kind, TOP_KEYS, field_at, keys_of, lasting_field};
+use super::fields::{
+    Field, Kind, OUTSIDE, TOP_KEYS, field_at, keys_of, lasting_field, words_beside,
+};
 use super::hint::Hint;
 use super::near::nearest;
 use super::other_keys::{advice_for, advice_in_place, is_word_for_clients};
@@ -27,9 +29,38 @@ pub fn hint_for_shape(
     if key == Key::Unknown {
         return hint_for_unknown(alloc, inner, &part);
     }
+    if is_outside(table, key) {
+        return hint_for_outside(alloc, inner.get(OUTSIDE), &part).map(Some);
+    }
     match inner.get(key.word()) {
         Some(value) => hint_for_value(alloc, source, inner, key, value, &part).map(Some),
         None => hint_for_absent(alloc, source, inner, key, &part).map(Some),
+    }
+}
+
+/// Whether a fault is that of the share that a table of links tells: it is one of the table.
+fn is_outside(table: ScenarioTable, key: Key) -> bool {
+    matches!(table, ScenarioTable::Link(_)) && key == Key::Link
+}
+
+/// What stands where a table of links tells a share is none.
+fn hint_for_outside(
+    alloc: Global,
+    value: Option<&Value>,
+    part: &Part<'_>,
+) -> Result<String, AllocError> {
+    let rule =
+        "write a share from 0 to 1 in quotes, with at most nine digits after the point, as 'outside = \"0.001\"'";
+    match value.and_then(Value::as_str) {
+        Some(text) => {
+            let shown = Quoted(text);
+            format!(in alloc; "'outside' in {part} is {shown}: {rule}")
+        }
+        None => {
+            let found = value.map_or("value", Value::type_str);
+            let article = article_of(found);
+            format!(in alloc; "'outside' in {part} is {article} {found}: {rule}")
+        }
     }
 }
 
@@ -314,14 +345,18 @@ fn has_key(value: &Value, key: Key) -> bool {
 
 /// The first key of the table that it may not have.
 fn hint_for_unknown(alloc: Global, table: &Table, part: &Part<'_>) -> Hint {
-    let keys = keys_of(part.table);
     for word in table.keys() {
         let word = word.as_str();
-        if !is_key_among(word, keys) {
+        if !is_key_of(word, part.table) {
             return hint_for_other_key(alloc, word, part).map(Some);
         }
     }
     Ok(None)
+}
+
+/// Whether a word is a key that a table may have.
+fn is_key_of(word: &str, table: ScenarioTable) -> bool {
+    is_key_among(word, keys_of(table)) || words_beside(table).contains(&word)
 }
 
 /// Whether a word is one of these keys.
@@ -351,7 +386,8 @@ fn hint_for_strange_key(alloc: Global, word: &str, part: &Part<'_>) -> Result<St
         return format!(in alloc; "{part} has an unknown key, {shown}: {advice}");
     }
     let keys = keys_of(part.table);
-    let words: Vec<&str> = keys.iter().map(|key| key.word()).collect(alloc)?;
+    let mut words: Vec<&str> = keys.iter().map(|key| key.word()).collect(alloc)?;
+    words.extend_from_slice(words_beside(part.table))?;
     match nearest(alloc, word, &words)? {
         Some(near) => {
             format!(in alloc; "{part} has an unknown key, {shown}: did you mean '{near}'?")

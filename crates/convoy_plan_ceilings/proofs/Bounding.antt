@@ -109,18 +109,18 @@ target_there wanted plan chosen scenario row same is i =
     subst (λ (ts : List Target). IsIn row.target ts) (sym (ap counted (same_targets wanted plan.deadlines chosen.scenario scenario same)))
     (subst (λ (t : Target). IsIn t (targets_by wanted plan chosen.scenario)) its found.1)
 
-pub high_passed : (sites_law : RangesAreOfSites) (messages_law : MessagesAreOfPlans) (wanted : Wanted) (plan : Plan) (chosen : CeilingChoice) (leasts sites : List (Option ℕ)) (tick : ℕ)
-    → IsPlan plan → plan.tick ≡ Some tick → IsCeilingChoice wanted plan chosen → AreLeasts plan leasts
+pub high_passed : (sites_law : RangesAreOfSites) (messages_law : MessagesAreOfPlans) (wanted : Wanted) (plan : Plan) (chosen : CeilingChoice) (leasts sites : List (Option ℕ))
+    → IsPlan plan → IsCeilingChoice wanted plan chosen → AreLeasts plan leasts
     → IsHighAnyhow plan chosen.scenario leasts sites chosen.rows.items chosen.reach
     → (placement : List ℕ) → Completes placement sites → IsNoBetter wanted plan chosen.reach placement
-high_passed sites_law messages_law wanted plan chosen leasts sites tick is_plan long is are high placement all scenario made =
+high_passed sites_law messages_law wanted plan chosen leasts sites is_plan is are high placement all scenario made =
     let first : Scenario = chosen.scenario in
     let row : TargetCeiling = high.row in
     let target : Target = row.target in
-    let same = agree plan tick chosen.placement.items placement first scenario long is.made made in
+    let same = agree plan chosen.placement.items placement first scenario is_plan is.made made in
     let i = in_of_contains row chosen.rows.items high.of_row in
     let may = may_too first scenario target same (all-in (λ (r : TargetCeiling). MayBeTarget first r.target) row chosen.rows.items is.lawful i) in
-    let many = message_count plan tick placement scenario long made in
+    let many = message_count plan placement scenario made in
     let known : target.message < length plan.written.messages = let below = may.known in omega (arith, below, many) in
     let at_group : target.group < length plan.written.groups =
     goes_known sites_law messages_law plan is_plan placement sites all scenario made target.message known target.group (in_of_goes scenario target.message target.group may.addressed) in

@@ -13,7 +13,7 @@ use convoy_plans::Plan;
 use convoy_plans::plan_laws::{messages_are_of_plans, ranges_are_of_sites};
 
 /// Whether no placement that has these sites is better than the best choice so far, as some ceiling is too great in each of
-/// them. Nothing is known of plans whose ticks have no length.
+/// them.
 pub(crate) fn is_cut(plan: &Plan, standing: &Standing, sites: &[Option<usize>]) -> bool
     ensures { (wanted : Wanted) → IsStanding wanted plan.now standing.now → IsTrue result
         → ArePassed wanted plan.now standing.now.chosen sites.now }
@@ -38,15 +38,12 @@ fn is_high_below(
     messages_are_of_plans();
     // A plan is well formed.
     let _count = plan.group_count();
-    match plan.tick() {
-        None => false,
-        Some(_) => is_high_anyhow(
-            plan,
-            &chosen.scenario,
-            leasts,
-            sites,
-            &chosen.rows,
-            chosen.reach,
-        ),
-    }
+    is_high_anyhow(
+        plan,
+        &chosen.scenario,
+        leasts,
+        sites,
+        &chosen.rows,
+        chosen.reach,
+    )
 }

@@ -6,4 +6,4 @@ pub mod Seen
 pub mod Pairing
 pub mod Safe
 pub mod Covering
-pub mod Told
+pub mod TimesRead

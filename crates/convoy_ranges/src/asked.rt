@@ -90,7 +90,7 @@ impl RangesAsked {
     }
 
     /// The rules, within their limits.
-    pub(crate) fn rules(&self) -> RangeRules
+    pub fn rules(&self) -> RangeRules
         ensures value { result ≡ self.now }
         ensures lawful { AreRules result }
     {

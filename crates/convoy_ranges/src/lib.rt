@@ -5,6 +5,8 @@
 pub use answering::ranges_text;
 pub use asked::{RangeRules, RangesAsked, Speed, USUAL_TICK};
 pub use fault::{Cause, MOST_BYTES, MOST_PAIRS, RangesFault};
+pub use links::told;
+pub use ranges::round_trip_of;
 
 mod answering;
 mod asked;

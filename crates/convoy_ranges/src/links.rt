@@ -15,9 +15,9 @@ use convoy_draft::{AllocResult, Duration, TimeUnit};
 use convoy_times::Measure;
 use std::alloc::Global;
 
-/// So many ticks in milliseconds, with the unit.
+/// So many ticks in milliseconds, with the unit. Fails where memory runs out, and else never.
 #[tactic(auto, unfolding(crate::specs::Texts::told))]
-fn told(alloc: Global, asked: &RangesAsked, ticks: u32) -> AllocResult<String>
+pub fn told(alloc: Global, asked: &RangesAsked, ticks: u32) -> AllocResult<String>
     ensures { IfOk result (λ text. string_bytes text ≡ told asked.now ticks) }
 {
     let Some(tick) = Duration::from_nanoseconds(asked.rules().tick) else {

@@ -44,8 +44,8 @@ fn least_of(rules: RangeRules, kilometres: Option<u32>) -> u64
     }
 }
 
-/// How many ticks a round trip takes with the margin, rounded up.
-fn round_trip_of(rules: RangeRules, round_trip: u64) -> u64
+/// How many ticks a time takes with the margin, in nanoseconds and rounded up, as a round trip.
+pub fn round_trip_of(rules: RangeRules, round_trip: u64) -> u64
     requires rules { AreRules rules }
     requires within { round_trip ≤ LONGEST_DURATION }
     ensures { result ≡ round_trip_of rules round_trip }

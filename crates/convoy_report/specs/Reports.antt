@@ -53,7 +53,7 @@ shown_targets scenario deadlines rows =
 -- WHAT IS SHOWN OF A RUN
 -- the same is asked, of that message at that group
 abbrev pub at_target : Asked → Scenario → ℕ → ℕ → Asked
-at_target asked scenario m g = record { target = Named (message_at scenario m).name (group_name_at scenario g); at_most = asked.at_most }
+at_target asked scenario m g = record asked { target = Named (message_at scenario m).name (group_name_at scenario g) }
 
 -- What was found is no certificate that is accepted: one of `explain` and `draw` says so.
 pub record IsNotAccepted (found : List ℕ) : Type 0 where
@@ -104,7 +104,7 @@ pub record IsTold (asked : Asked) (settings : Settings) (text : List ℕ) (repor
   pub lawful : IsScenario report.scenario
   pub deadlines : report.deadlines.items ≡ deadlines_of_text asked text
   pub times : report.times ≡ times_of Html (measure_of_text settings.unit text report.scenario)
-  pub surveyed : AreSurveyed settings report.scenario report.rows.items
+  pub surveyed : AreSurveyed settings None report.scenario report.rows.items
   pub runs :
       AreRunsOf asked settings text report.scenario
       (shown_targets report.scenario report.deadlines.items report.rows.items) report.runs.items

@@ -78,6 +78,7 @@ fn at_target(
     Ok(Asked {
         target: TargetKey::Named { message, group },
         at_most: asked.at_most,
+        around: asked.around,
     })
 }
 
@@ -107,6 +108,7 @@ fn accepted(alloc: Global, asking: Asking, found: &[u8]) -> Result<Option<Vec<u8
         | Done::Beyond
         | Done::Faulty
         | Done::Refused(_)
+        | Done::PlanRefused
         | Done::Differs(_)
         | Done::Departs
         | Done::NotChecked => Ok(None),

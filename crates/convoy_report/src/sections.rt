@@ -54,7 +54,12 @@ pub(crate) fn verdict(judged: bool, done: Done) -> &'static str
         }
         (
             _,
-            Done::Faulty | Done::Refused(_) | Done::Differs(_) | Done::Departs | Done::NotChecked,
+            Done::Faulty
+            | Done::Refused(_)
+            | Done::PlanRefused
+            | Done::Differs(_)
+            | Done::Departs
+            | Done::NotChecked,
         ) => { "<p class=\"verdict unknown\">Memory ran out for a row of the table below.</p>\n" }
     }
 }

@@ -1,4 +1,5 @@
 pub mod Numbers
+pub mod AroundRows
 pub mod RowVerdicts
 pub mod Opens
 pub mod Greatest

@@ -3,19 +3,19 @@ use Rattle.std.proofs.Common.{◌≡◌, ◌≤◌, ◌++◌, ℕ, List, Result,
 use Rattle.std.specs.declared.alloc.AllocError.{AllocError}
 use Rattle.convoy_scenario.specs.Scenario.{Scenario}
 use Rattle.convoy_draft.specs.declared.fault.ScenarioFault.{ScenarioFault}
-use Rattle.convoy_scenario.specs.Targets.{with_target}
 use Rattle.convoy_sim.specs.Greatest.{IsGreatest}
 use Rattle.convoy_toml.specs.declared.asked.Asked.{Asked}
 use Rattle.convoy_toml.specs.Reading.{scenario_of_text_by}
 use Rattle.convoy_branch.specs.Options.{Settings}
 use Rattle.convoy_commands.specs.declared.done.Done.{Done}
 use Rattle.convoy_commands.specs.Measured.{measure_of_text}
+use Rattle.convoy_commands.specs.Outsides.{outside_of_text, outside_text}
 use Rattle.convoy_commands.specs.ReplyLines.{greatest_line}
 use Rattle.convoy_commands.specs.Searches.{IsGreatestTold}
 use Rattle.convoy_commands.specs.Verdicts.{target_deadline, verdict_text}
 use Rattle.convoy_survey.specs.declared.finding.Finding.{Finding}
 use Rattle.convoy_survey.specs.declared.finding.Finding.TheVariants.{Greatest, Open, OutOfMemory}
-use Rattle.convoy_survey.specs.Findings.{Encloses, IsFinding, least_of, most_of, told_finding}
+use Rattle.convoy_survey.specs.Findings.{Encloses, IsFinding, least_of, most_of, scenario_at, told_finding}
 use Rattle.convoy_survey.specs.SurveyLaws.{RowsAreLatencies, RowsEnclose}
 
 -- what is reached is no more than what is an upper bound
@@ -36,7 +36,8 @@ same_scenario a b is = cc
 abbrev pub latency_lines : Asked → Settings → List ℕ → Scenario → ℕ → List ℕ
 latency_lines asked settings text scenario latency =
     greatest_line (measure_of_text settings.unit text scenario) latency
-    ++ verdict_text (measure_of_text settings.unit text scenario) (target_deadline asked text scenario) latency latency
+    ++ (verdict_text (measure_of_text settings.unit text scenario) (target_deadline asked text scenario) latency latency
+    ++ outside_text (outside_of_text text scenario))
 
 -- the greatest latency that `latency` tells of a text is that of the text's scenario
 pub latency_told : (asked : Asked) (settings : Settings) (scenario : Scenario) (latency : ℕ) (text out : List ℕ) (end : Done) → IsGreatest scenario latency →
@@ -47,8 +48,8 @@ latency_told asked settings scenario latency text out end greatest read told =
     told.written ∙ ap (λ (s : Scenario). latency_lines asked settings text s told.latency) same ∙ ap (latency_lines asked settings text scenario) number
 
 pub rows_are_latencies : RowsAreLatencies
-rows_are_latencies settings other asked scenario m g latency nodes cause text out end found read told =
-    latency_told asked other (with_target scenario m g) latency text out end found.greatest read told
+rows_are_latencies settings other span asked scenario m g latency nodes cause text out end found read told =
+    latency_told asked other (scenario_at span scenario m g) latency text out end found.greatest read told
 
 -- what a search finds encloses the greatest latency
 pub finding_encloses : (settings : Settings) (scenario : Scenario) (finding : Finding) → IsFinding settings scenario finding →
@@ -75,6 +76,6 @@ told_encloses settings scenario (Ok finding) found = finding_encloses settings s
 told_encloses settings scenario (Err error) found = record { reached = tt; upper = tt; between = λ latency greatest. (tt, tt) }
 
 pub rows_enclose : RowsEnclose
-rows_enclose settings scenario row is =
-    let asked : Scenario = with_target scenario row.message row.group in
+rows_enclose settings span scenario row is =
+    let asked : Scenario = scenario_at span scenario row.message row.group in
     subst (λ (finding : Finding). Encloses asked (least_of finding) (most_of finding)) (sym is.told) (told_encloses settings asked is.answer is.given)

@@ -1,13 +1,12 @@
 -- What the verdicts on rows say.
 use Rattle.std.proofs.Common.{◌≡◌, ℕ, Option, Some, None, subst}
 use Rattle.convoy_scenario.specs.Scenario.{Scenario}
-use Rattle.convoy_scenario.specs.Targets.{with_target}
 use Rattle.convoy_commands.specs.declared.verdict.Verdict.{Verdict}
 use Rattle.convoy_commands.specs.CommandLaws.{VerdictSays, VerdictsHold}
 use Rattle.convoy_commands.specs.Verdicts.{verdict_of}
 use Rattle.convoy_survey.specs.declared.finding.Finding.{Finding}
 use Rattle.convoy_survey.specs.declared.finding.Finding.TheVariants.{Greatest, Open, OutOfMemory}
-use Rattle.convoy_survey.specs.Findings.{Encloses, least_of, most_of}
+use Rattle.convoy_survey.specs.Findings.{Encloses, least_of, most_of, scenario_at}
 use Rattle.convoy_survey.specs.Judgements.{finding_verdict}
 use Rattle.convoy_survey.specs.SurveyLaws.{RowVerdictsHold}
 use Rattle.convoy_survey.proofs.Numbers.{rows_enclose}
@@ -30,5 +29,5 @@ finding_says hold scenario deadline (Open least most cause) verdict encloses is 
 finding_says hold scenario deadline OutOfMemory verdict encloses is = absurd (no_verdict verdict is)
 
 pub row_verdicts_hold : VerdictsHold → RowVerdictsHold
-row_verdicts_hold hold settings scenario row deadline verdict is says =
-    finding_says hold (with_target scenario row.message row.group) deadline row.finding verdict (rows_enclose settings scenario row is) says
+row_verdicts_hold hold settings span scenario row deadline verdict is says =
+    finding_says hold (scenario_at span scenario row.message row.group) deadline row.finding verdict (rows_enclose settings span scenario row is) says

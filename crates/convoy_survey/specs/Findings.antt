@@ -2,6 +2,7 @@
 use Rattle.std.specs.Prelude.{◌≡◌, ℕ, ◌≤◌, Bool, true, false, List, length, Option, Some, None, IfSome, Result, Ok, Err, IfOk, codes}
 use Rattle.std.specs.Option.{option_and_then, option_map}
 use Rattle.std.specs.declared.alloc.AllocError.{AllocError}
+use Rattle.convoy_around.specs.Around.{around_at}
 use Rattle.convoy_scenario.specs.Scenario.{Scenario}
 use Rattle.convoy_scenario.specs.Targets.{with_target}
 use Rattle.convoy_packets.specs.Assignment.{Schedule, IsAssignment}
@@ -63,13 +64,18 @@ pub record IsRowBy (may_answer : ℕ → ℕ → Result Finding AllocError → T
   pub given : may_answer row.message row.group answer
   pub told : row.finding ≡ told_finding answer
 
+-- the scenario in which the latency of a message at a group is asked: the same with that target, or where all is asked around it by so long a span, that around it
+abbrev pub scenario_at : Option ℕ → Scenario → ℕ → ℕ → Scenario
+scenario_at None scenario m g = with_target scenario m g
+scenario_at (Some span) scenario m g = around_at span scenario m g
+
 -- what a search with these settings may answer for a message at a group of the scenario: what it finds of that target, or, as with each command, that memory ran out
-abbrev pub MayAnswer : Settings → Scenario → ℕ → ℕ → Result Finding AllocError → Type 0
-MayAnswer settings scenario m g answer = IfOk answer (IsFinding settings (with_target scenario m g))
+abbrev pub MayAnswer : Settings → Option ℕ → Scenario → ℕ → ℕ → Result Finding AllocError → Type 0
+MayAnswer settings span scenario m g answer = IfOk answer (IsFinding settings (scenario_at span scenario m g))
 
 -- the row tells what a search with these settings answered for its target
-abbrev pub IsSurveyed : Settings → Scenario → Surveyed → Type 0
-IsSurveyed settings scenario row = IsRowBy (MayAnswer settings scenario) row
+abbrev pub IsSurveyed : Settings → Option ℕ → Scenario → Surveyed → Type 0
+IsSurveyed settings span scenario row = IsRowBy (MayAnswer settings span scenario) row
 
 -- the words for what is known: of a fault those of its line
 abbrev pub answer_word : Finding → List ℕ

@@ -1,8 +1,9 @@
 -- What is proved of the rows of a survey, and of those of ceilings. Each is the one clause of the function of its name in the crate's module `survey_laws`.
-use Rattle.std.specs.Prelude.{◌≡◌, ℕ, ◌<◌, ◌≤◌, List, length, ◌++◌, Option, Some, None, IfSome, Ok}
-use Rattle.std.specs.List.{All, Contains}
-use Rattle.convoy_scenario.specs.Scenario.{Scenario, message_at}
-use Rattle.convoy_scenario.specs.Targets.{with_target}
+use Rattle.std.specs.Prelude.{◌≡◌, ℕ, ◌<◌, ◌≤◌, List, length, map, ◌++◌, Option, Some, None, IfSome, Ok}
+use Rattle.std.specs.List.{All, Contains, flat_map}
+use Rattle.convoy_scenario.specs.Scenario.{Scenario, message_at, message_numbers}
+use Rattle.convoy_scenario.specs.Targets.{targets_of, with_target}
+use Rattle.convoy_scenario.specs.WellFormed.{IsScenario}
 use Rattle.convoy_sim.specs.Greatest.{IsReached, IsUpper}
 use Rattle.convoy_ceiling.specs.Ceiling.{IsUpperInTraffic}
 use Rattle.convoy_toml.specs.declared.asked.Asked.{Asked}
@@ -12,6 +13,7 @@ use Rattle.convoy_commands.specs.declared.done.Done.{Done}
 use Rattle.convoy_commands.specs.declared.verdict.Verdict.{Verdict}
 use Rattle.convoy_commands.specs.CommandLaws.{VerdictSays}
 use Rattle.convoy_commands.specs.Measured.{measure_of_text}
+use Rattle.convoy_commands.specs.Outsides.{outside_of_text, outside_text}
 use Rattle.convoy_commands.specs.ReplyLines.{greatest_line}
 use Rattle.convoy_commands.specs.Searches.{IsGreatestTold}
 use Rattle.convoy_commands.specs.Verdicts.{target_deadline, verdict_text}
@@ -22,31 +24,38 @@ use Rattle.convoy_survey.specs.declared.finding.Surveyed.{Surveyed}
 use Rattle.convoy_survey.specs.AtAll.{least_at_all, most_at_all, rows_of}
 use Rattle.convoy_survey.specs.Ceilings.{AreCeiled, IsAttainedInTraffic, IsCeiled}
 use Rattle.convoy_survey.specs.CeilingTables.{ceiled_of, greatest_attained, greatest_ceiling}
-use Rattle.convoy_survey.specs.Findings.{Encloses, IsFinding, IsSurveyed, least_of, most_of}
+use Rattle.convoy_survey.specs.Findings.{Encloses, IsFinding, IsSurveyed, least_of, most_of, scenario_at}
 use Rattle.convoy_survey.specs.Judgements.{finding_verdict}
-use Rattle.convoy_survey.specs.Surveys.{AreSurveyed}
+use Rattle.convoy_survey.specs.Surveys.{AreSurveyed, with_rows}
 
--- Of a text of the same scenario with a row's message and group as its target, `latency` answers the row's number where it tells a greatest latency, by whatever settings and whoever asked, and below it how that keeps the deadline of the target, if it has one.
+-- Of a text of the same scenario with a row's message and group as its target, or of the scenario around these, `latency` answers the row's number where it tells a greatest latency, by whatever settings and whoever asked, below it how that keeps the deadline of the target, if it has one, and how sure the ranges are, if its links tell that.
 abbrev pub RowsAreLatencies : Type 0
 RowsAreLatencies =
-    (settings other : Settings) (asked : Asked) (scenario : Scenario) (m g latency nodes : ℕ) (cause : Cause) (text out : List ℕ) (end : Done) →
-    IsFinding settings (with_target scenario m g) (Greatest latency cause nodes) →
-    scenario_of_text_by asked text ≡ Ok (with_target scenario m g) → IsGreatestTold asked other text end out →
+    (settings other : Settings) (span : Option ℕ) (asked : Asked) (scenario : Scenario) (m g latency nodes : ℕ) (cause : Cause) (text out : List ℕ) (end : Done) →
+    IsFinding settings (scenario_at span scenario m g) (Greatest latency cause nodes) →
+    scenario_of_text_by asked text ≡ Ok (scenario_at span scenario m g) → IsGreatestTold asked other text end out →
     out
-    ≡ greatest_line (measure_of_text other.unit text (with_target scenario m g)) latency
-    ++ verdict_text (measure_of_text other.unit text (with_target scenario m g)) (target_deadline asked text (with_target scenario m g)) latency latency
+    ≡ greatest_line (measure_of_text other.unit text (scenario_at span scenario m g)) latency
+    ++ (verdict_text (measure_of_text other.unit text (scenario_at span scenario m g)) (target_deadline asked text (scenario_at span scenario m g)) latency latency
+    ++ outside_text (outside_of_text text (scenario_at span scenario m g)))
+
+-- Around each target, the targets that have rows are each message at each group that it goes to.
+abbrev pub AroundHasEachTarget : Type 0
+AroundHasEachTarget =
+    (span : ℕ) (scenario : Scenario) → IsScenario scenario →
+    targets_of (with_rows (Some span) scenario) ≡ flat_map (λ m. map (λ g. (m, g)) (message_at scenario m).destinations) (message_numbers scenario)
 
 -- The two numbers of a row, `least` and `most`, enclose the greatest latency of its target, whether or not the search ended.
 abbrev pub RowsEnclose : Type 0
 RowsEnclose =
-    (settings : Settings) (scenario : Scenario) (row : Surveyed) → IsSurveyed settings scenario row →
-    Encloses (with_target scenario row.message row.group) (least_of row.finding) (most_of row.finding)
+    (settings : Settings) (span : Option ℕ) (scenario : Scenario) (row : Surveyed) → IsSurveyed settings span scenario row →
+    Encloses (scenario_at span scenario row.message row.group) (least_of row.finding) (most_of row.finding)
 
 -- What the verdict on a row says holds of its target, whether or not the search ended: within, no schedule has a latency above the deadline, and beyond, some schedule has one.
 abbrev pub RowVerdictsHold : Type 0
 RowVerdictsHold =
-    (settings : Settings) (scenario : Scenario) (row : Surveyed) (deadline : ℕ) (verdict : Verdict) → IsSurveyed settings scenario row →
-    finding_verdict (Some deadline) row.finding ≡ Some verdict → VerdictSays (with_target scenario row.message row.group) deadline verdict
+    (settings : Settings) (span : Option ℕ) (scenario : Scenario) (row : Surveyed) (deadline : ℕ) (verdict : Verdict) → IsSurveyed settings span scenario row →
+    finding_verdict (Some deadline) row.finding ≡ Some verdict → VerdictSays (scenario_at span scenario row.message row.group) deadline verdict
 
 -- It holds of a message at one of the groups that it goes to.
 pub record IsAtOne (scenario : Scenario) (m : ℕ) (holds_at : ℕ → Type 0) : Type 0 where
@@ -59,16 +68,16 @@ abbrev pub IsAtEach : Scenario → ℕ → (ℕ → Type 0) → Type 0
 IsAtEach scenario m holds_at = All holds_at (message_at scenario m).destinations
 
 -- Of a message at all the groups that it goes to: some schedule has the least at one of them, and none has a latency above the most at any. Of one that is not known nothing is said.
-pub record EnclosesAtAll (scenario : Scenario) (m : ℕ) (least most : Option ℕ) : Type 0 where
-  pub reached : IfSome least (λ n. IsAtOne scenario m (λ g. IsReached (with_target scenario m g) n))
-  pub upper : IfSome most (λ n. IsAtEach scenario m (λ g. IsUpper (with_target scenario m g) n))
+pub record EnclosesAtAll (span : Option ℕ) (scenario : Scenario) (m : ℕ) (least most : Option ℕ) : Type 0 where
+  pub reached : IfSome least (λ n. IsAtOne scenario m (λ g. IsReached (scenario_at span scenario m g) n))
+  pub upper : IfSome most (λ n. IsAtEach scenario m (λ g. IsUpper (scenario_at span scenario m g) n))
 
 -- The two numbers of the row of a message at all groups, of which a survey has rows, enclose the greatest latency at its groups: when a client that waits for all of them has its answer.
 abbrev pub RowsAtAllEnclose : Type 0
 RowsAtAllEnclose =
-    (settings : Settings) (scenario : Scenario) (m : ℕ) (rows : List Surveyed) →
-    AreSurveyed settings scenario rows → 0 < length (rows_of m rows) →
-    EnclosesAtAll scenario m (least_at_all (rows_of m rows)) (most_at_all (rows_of m rows))
+    (settings : Settings) (span : Option ℕ) (scenario : Scenario) (m : ℕ) (rows : List Surveyed) →
+    AreSurveyed settings span scenario rows → 0 < length (rows_of m rows) →
+    EnclosesAtAll span scenario m (least_at_all (rows_of m rows)) (most_at_all (rows_of m rows))
 
 -- Of a message at a group: in no traffic of the scenario's kinds is a latency of its kind there above the most; traffic in which it is asked for attains the least, which is no greater. Of a least that is not known nothing is said.
 pub record EnclosesInTraffic (scenario : Scenario) (m g : ℕ) (least : Option ℕ) (most : ℕ) : Type 0 where

@@ -1,13 +1,15 @@
 -- What a survey of a scenario writes.
-use Rattle.std.specs.Prelude.{◌≡◌, ℕ, ◌<◌, Bool, List, length, map, Option, Result, Ok, Err}
+use Rattle.std.specs.Prelude.{◌≡◌, ℕ, ◌<◌, Bool, List, length, map, Option, Some, None, Result, Ok, Err}
 use Rattle.std.specs.List.{All, list_any}
 use denote.Ref.{Bor}
 use Rattle.std.specs.declared.alloc.AllocError.{AllocError}
+use Rattle.convoy_around.specs.Around.{around_at}
 use Rattle.convoy_scenario.specs.Room.{HasRoom}
 use Rattle.convoy_scenario.specs.Scenario.{Scenario, GoesTo}
 use Rattle.convoy_scenario.specs.Targets.{targets_of, with_target}
 use Rattle.convoy_scenario.specs.WellFormed.{IsScenario}
 use Rattle.convoy_toml.specs.declared.asked.Asked.{Asked}
+use Rattle.convoy_toml.specs.Around.{span_asked}
 use Rattle.convoy_toml.specs.Reading.{deadlines_of_text, scenario_of_text_by}
 use Rattle.convoy_branch.specs.Options.{Settings}
 use Rattle.convoy_tables.specs.declared.format.Format.{Format}
@@ -55,9 +57,14 @@ pub record AreRowsBy (scenario : Scenario) (may_answer : ℕ → ℕ → Result 
   pub targets : map target_of rows ≡ targets_of scenario
   pub told : All (IsRowBy may_answer) rows
 
+-- the scenario whose targets have rows: where all is asked around each target it has the same messages, of which none waits, so that each has room (`AroundHasEachTarget`)
+abbrev pub with_rows : Option ℕ → Scenario → Scenario
+with_rows None scenario = scenario
+with_rows (Some span) scenario = around_at 0 scenario scenario.target_message scenario.target_group
+
 -- they are the rows by searches with these settings
-abbrev pub AreSurveyed : Settings → Scenario → List Surveyed → Type 0
-AreSurveyed settings scenario rows = AreRowsBy scenario (MayAnswer settings scenario) rows
+abbrev pub AreSurveyed : Settings → Option ℕ → Scenario → List Surveyed → Type 0
+AreSurveyed settings span scenario rows = AreRowsBy (with_rows span scenario) (MayAnswer settings span scenario) rows
 
 -- the row is beyond the deadline of its message
 abbrev pub is_row_beyond : List (Option ℕ) → Surveyed → Bool
@@ -72,13 +79,13 @@ abbrev pub end_of : List (Option ℕ) → List Surveyed → Done
 end_of deadlines rows =
     end_by (list_any (is_row_beyond deadlines) rows) (list_any (λ row. is_fault row.finding) rows) (list_any (is_row_open deadlines) rows)
 
--- THE HEADLINE. What is written is the table of these rows of the scenario that was read, where that is asked, and of each of its messages at all groups, in this format, judged by the deadlines of its messages, and with the ceilings where they are asked for, and the end is told by the rows. What a ceiling is worth the law `CeilingHolds` says.
+-- THE HEADLINE. What is written is the table of these rows of the scenario that was read, where that is asked, each around its own target where all is asked so, and of each of its messages at all groups, in this format, judged by the deadlines of its messages, and with the ceilings where they are asked for, and the end is told by the rows. What a ceiling is worth the law `CeilingHolds` says.
 pub record IsSurvey (format : Format) (with_ceilings : Bool) (asked : Asked) (settings : Settings) (text : List ℕ) (end : Done) (out : List ℕ) : Type 0 where
   pub scenario : Scenario
   pub rows : List Surveyed
   pub read : scenario_of_text_by asked text ≡ Ok scenario
   pub lawful : IsScenario scenario
-  pub surveyed : AreSurveyed settings scenario rows
+  pub surveyed : AreSurveyed settings (span_asked asked.around scenario) scenario rows
   pub written : out
       ≡ table_text format
       (table_of with_ceilings (times_of format (measure_of_text settings.unit text scenario)) (deadlines_of_text asked text) scenario rows)

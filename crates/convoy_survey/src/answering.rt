@@ -5,21 +5,24 @@ ghost use Rattle.convoy_survey.specs.Findings.{is_fault};
 ghost use Rattle.convoy_survey.specs.Surveys.{SurveySays, end_of, is_row_beyond, is_row_open};
 
 use super::finding::Surveyed;
-use super::rows::survey;
+use super::rows::survey_around;
 use super::table::survey_text;
 use super::times::Times;
 use convoy_branch::Options;
 use convoy_commands::{Answer, Done, Fault, Watch, deadline_at};
+use convoy_scenario::Scenario;
 use convoy_tables::Format;
 use convoy_times::Measure;
-use convoy_toml::{Asked, read_toml_asked};
+use convoy_toml::text_laws::texts_have_spans;
+use convoy_toml::{Asked, read_toml_asked, span_asked};
 use std::alloc::Global;
 use std::sync::Wait;
 use std::thread::Threads;
 
 /// The survey of the scenario of a text: a table with a row for each message at each group that it goes to
 /// (docs/FORMATS.md, "What `survey` writes"). Of what is asked its target does not matter. The numbers of a row are those
-/// that [`latency_answer`](convoy_commands::latency_answer) tells of the scenario with that target. With ceilings, a row
+/// that [`latency_answer`](convoy_commands::latency_answer) tells of the scenario with that target, or around it where all is asked so: each message has its
+/// rows then. With ceilings, a row
 /// ends with the [`ceiling`](convoy_ceiling::ceiling) of its message at its group. Below the rows of a message stands one
 /// for it at all its groups, with the greatest of their numbers: when a client that waits for all of them has its answer.
 /// Numbers are in ticks, and where times are told ([`Times::of`]) in the unit that the options ask for or else the text
@@ -50,7 +53,8 @@ pub fn survey_answer<R: Threads + Wait + Sync, W: Watch + Sync>(
     let scenario = input.scenario;
     // A scenario is well formed.
     let _count = scenario.message_count();
-    let rows = survey(rt, alloc, &scenario, options, watches)?;
+    let span = span_of(asked, text, &scenario);
+    let rows = survey_around(rt, alloc, span, &scenario, options, watches)?;
     let times = Times::of(format, Measure::of(&scenario, options.unit(), input.unit));
     let deadlines = input.deadlines.as_slice();
     let text = survey_text(
@@ -64,6 +68,22 @@ pub fn survey_answer<R: Threads + Wait + Sync, W: Watch + Sync>(
     )?;
     let done = end_of(deadlines, &rows);
     Ok(Answer::about(done, text, scenario, input.plain))
+}
+
+ghost use Rattle.std.specs.Prelude.{IfSome, IsTrue, Ok};
+ghost use Rattle.convoy_around.specs.Around.{is_span};
+ghost use Rattle.convoy_toml.specs.Around.{span_asked};
+ghost use Rattle.convoy_toml.specs.Reading.{scenario_of_text_by};
+
+/// By how much all is asked around the targets of the scenario that was read of a text, where it is asked so: no more than
+/// a span may be.
+fn span_of(asked: &Asked, _text: &[u8], scenario: &Scenario) -> Option<u32>
+    requires { scenario_of_text_by asked.now _text.now ≡ Ok scenario.now }
+    ensures value { result ≡ span_asked asked.now.around scenario.now }
+    ensures short { IfSome result (λ n. IsTrue (is_span n)) }
+{
+    texts_have_spans();
+    span_asked(asked.around, scenario)
 }
 
 /// How a survey with these rows ends, by the deadlines of the messages.

@@ -14,7 +14,7 @@ pub use finding::{Cause, Finding, Surveyed};
 pub use judgements::{
     has_deadline, is_beyond, is_open_by, push_verdict_cells, push_verdict_columns, verdict_at,
 };
-pub use rows::{survey, survey_by};
+pub use rows::{survey, survey_around, survey_by};
 pub use searching::find;
 pub use table::{push_finding_columns, push_time_columns, survey_text};
 pub use time_cells::{

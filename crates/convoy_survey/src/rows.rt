@@ -1,14 +1,17 @@
-ghost use Rattle.std.specs.Prelude.{◌≡◌, ◌<◌, [], ◌∷◌, ◌++◌, length, IfOk, OnOk};
+ghost use Rattle.std.specs.Prelude.{◌≡◌, ℕ, ◌<◌, [], ◌∷◌, ◌++◌, length, Some, None, IfOk, IfSome, IsTrue, OnOk};
 ghost use Rattle.std.specs.List.{All};
+ghost use Rattle.convoy_around.specs.Around.{is_span};
 ghost use Rattle.convoy_scenario.specs.Room.{HasRoom};
 ghost use Rattle.convoy_scenario.specs.Scenario.{GoesTo};
 ghost use Rattle.convoy_scenario.specs.Targets.{targets_at, targets_of, with_target};
 ghost use Rattle.convoy_survey.specs.Findings.{MayAnswer};
-ghost use Rattle.convoy_survey.specs.Surveys.{AreRowsBy, AreSurveyed, IsTarget, IsTargetPair, MayAnswerBy, TakesTargets, TellsTarget};
+ghost use Rattle.convoy_survey.specs.Surveys.{AreRowsBy, AreSurveyed, IsTarget, IsTargetPair, MayAnswerBy, TakesTargets, TellsTarget, with_rows};
 ghost use denote.Ref.{Bor};
 
 use super::finding::{Finding, Surveyed};
 use super::searching::find_target;
+use convoy_around::around_at;
+use convoy_around::around_laws::around_forgets_targets;
 use convoy_branch::Options;
 use convoy_commands::Watch;
 use convoy_rows::make_each;
@@ -33,12 +36,66 @@ pub fn survey<R: Threads + Wait + Sync, W: Watch + Sync>(
     watches: &[W],
 ) -> Result<Vec<Surveyed>, AllocError>
     requires { 0 < length watches.now }
-    ensures { IfOk result (λ rows. AreSurveyed options.now scenario.now rows.items) }
+    ensures { IfOk result (λ rows. AreSurveyed options.now None scenario.now rows.items) }
+{
+    survey_each(rt, alloc, None, scenario, options, watches)
+}
+
+/// The same where a span is given: each search is then of the scenario around its target
+/// ([`around_at`](convoy_around::around_at)), and each message has its rows.
+pub fn survey_around<R: Threads + Wait + Sync, W: Watch + Sync>(
+    rt: &R,
+    alloc: Global,
+    span: Option<u32>,
+    scenario: &Scenario,
+    options: &Options,
+    watches: &[W],
+) -> Result<Vec<Surveyed>, AllocError>
+    requires watched { 0 < length watches.now }
+    requires span { IfSome span (λ n. IsTrue (is_span n)) }
+    ensures { IfOk result (λ rows. AreSurveyed options.now span scenario.now rows.items) }
+{
+    around_forgets_targets();
+    match span {
+        Some(_) => {
+            let still = still(alloc, scenario)?;
+            let rows = survey_each(rt, alloc, span, &still, options, watches)?;
+            Ok(rows)
+        }
+        None => {
+            let rows = survey_each(rt, alloc, span, scenario, options, watches)?;
+            Ok(rows)
+        }
+    }
+}
+
+/// The scenario with its messages as they are where none waits, so that each may be the target.
+fn still(alloc: Global, scenario: &Scenario) -> Result<Scenario, AllocError>
+    ensures { IfOk result (λ still. (span : ℕ) → still ≡ with_rows (Some span) scenario.now) }
+{
+    let (message, group) = (scenario.target_message(), scenario.target_group());
+    around_at(alloc, scenario, 0, message, group)
+}
+
+/// The rows of the targets of a scenario, each around its target where a span is given.
+fn survey_each<R: Threads + Wait + Sync, W: Watch + Sync>(
+    rt: &R,
+    alloc: Global,
+    span: Option<u32>,
+    scenario: &Scenario,
+    options: &Options,
+    watches: &[W],
+) -> Result<Vec<Surveyed>, AllocError>
+    requires watched { 0 < length watches.now }
+    requires span { IfSome span (λ n. IsTrue (is_span n)) }
+    ensures { IfOk result (λ rows.
+        AreRowsBy scenario.now (MayAnswer options.now span scenario.now) rows.items) }
 {
     let find = |message: usize, group: usize, watch: &W| -> Result<Finding, AllocError>
-        requires { IsTarget scenario.now message group }
-        ensures { MayAnswer options.entry.now scenario.entry.now message group result }
-    { find_target(rt, alloc, scenario, message, group, options, watch) };
+        requires target { IsTarget scenario.now message group }
+        requires span { IfSome span (λ n. IsTrue (is_span n)) }
+        ensures { MayAnswer options.entry.now span scenario.entry.now message group result }
+    { find_target(rt, alloc, span, scenario, message, group, options, watch) };
     let rows = survey_by(rt, alloc, scenario, watches, &find)?;
     Ok(rows)
 }

@@ -1,11 +1,12 @@
-ghost use Rattle.std.specs.Prelude.{◌≡◌, IfOk};
-ghost use Rattle.convoy_scenario.specs.Targets.{with_target};
+ghost use Rattle.std.specs.Prelude.{◌≡◌, IfOk, IfSome, IsTrue};
+ghost use Rattle.convoy_around.specs.Around.{is_span};
 ghost use Rattle.convoy_commands.specs.Searches.{IsEnd};
-ghost use Rattle.convoy_survey.specs.Findings.{IsFinding, MayAnswer};
+ghost use Rattle.convoy_survey.specs.Findings.{IsFinding, MayAnswer, scenario_at};
 ghost use Rattle.convoy_survey.specs.Surveys.{IsTarget};
 
 use super::cause::cause_of;
 use super::finding::Finding;
+use convoy_around::around_at;
 use convoy_branch::{Options, Outcome};
 use convoy_commands::{Watch, search_instance};
 use convoy_packets::Instance;
@@ -30,35 +31,43 @@ pub fn find<R: Threads + Wait + Sync, W: Watch + Sync>(
     finding_of(alloc, instance, options, &outcome)
 }
 
-/// What a search finds of the latency of a message at a group that it goes to. Fails where memory runs out, and
-/// else never.
+/// What a search finds of the latency of a message at a group that it goes to, around that target where a span is given.
+/// Fails where memory runs out, and else never.
 pub(crate) fn find_target<R: Threads + Wait + Sync, W: Watch + Sync>(
     rt: &R,
     alloc: Global,
+    span: Option<u32>,
     scenario: &Scenario,
     message: usize,
     group: usize,
     options: &Options,
     watch: &W,
 ) -> Result<Finding, AllocError>
-    requires { IsTarget scenario.now message group }
-    ensures { MayAnswer options.now scenario.now message group result }
+    requires target { IsTarget scenario.now message group }
+    requires span { IfSome span (λ n. IsTrue (is_span n)) }
+    ensures { MayAnswer options.now span scenario.now message group result }
 {
-    let instance = target_instance(alloc, scenario, message, group)?;
+    let asked = target_scenario(alloc, span, scenario, message, group)?;
+    let instance = Instance::of(alloc, asked)?;
     find(rt, alloc, &instance, options, watch)
 }
 
-/// The instance of a scenario of which the latency of that message at that group is asked.
-fn target_instance(
+/// The scenario in which the latency of that message at that group is asked.
+fn target_scenario(
     alloc: Global,
+    span: Option<u32>,
     scenario: &Scenario,
     message: usize,
     group: usize,
-) -> Result<Instance, AllocError>
-    requires { IsTarget scenario.now message group }
-    ensures { IfOk result (λ instance. instance ≡ with_target scenario.now message group) }
+) -> Result<Scenario, AllocError>
+    requires target { IsTarget scenario.now message group }
+    requires span { IfSome span (λ n. IsTrue (is_span n)) }
+    ensures { IfOk result (λ other. other ≡ scenario_at span scenario.now message group) }
 {
-    Instance::of(alloc, scenario.with_target(message, group)?)
+    match span {
+        Some(span) => around_at(alloc, scenario, span, message, group),
+        None => scenario.with_target(message, group),
+    }
 }
 
 /// What was found of an instance by a search that ended so.

@@ -1,14 +1,25 @@
 //! The laws of surveys and of tables of ceilings. Each is the one clause of a function that does nothing; a
 //! caller that needs the law calls the function.
 
-ghost use Rattle.convoy_survey.specs.SurveyLaws.{CeilingRowsAtAllEnclose, CeilingRowsEnclose, RowVerdictsHold, RowsAreLatencies, RowsAtAllEnclose, RowsEnclose};
+ghost use Rattle.convoy_survey.specs.SurveyLaws.{AroundHasEachTarget, CeilingRowsAtAllEnclose, CeilingRowsEnclose, RowVerdictsHold, RowsAreLatencies, RowsAtAllEnclose, RowsEnclose};
 
+use convoy_around::around_laws::around_is_scenario;
 use convoy_commands::command_laws::verdicts_hold;
+use convoy_scenario::widened_laws::{room_is_decided, still_targets_have_room};
 
-/// The number of a row is that which `latency` answers for the scenario with that target.
+/// The number of a row is that which `latency` answers for the scenario with that target, or around it.
 pub fn rows_are_latencies()
     ensures { RowsAreLatencies }
 {}
+
+/// Around each target, each message has a row at each group that it goes to.
+pub fn around_has_each_target()
+    ensures { AroundHasEachTarget }
+{
+    around_is_scenario();
+    still_targets_have_room();
+    room_is_decided();
+}
 
 /// The two numbers of a row enclose the greatest latency, also where the search did not end: some schedule has the
 /// least, and none has a latency above the most.

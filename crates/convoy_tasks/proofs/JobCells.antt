@@ -10,30 +10,30 @@ use Rattle.convoy_tasks.specs.declared.job_row.JobRow.{JobRow}
 use Rattle.convoy_tasks.specs.JobTables.{cells_of, fault_words, table_with}
 
 -- the cells of rows, which are those of the jobs from a number on
-abbrev cells_from : Bool → ℕ → List JobRow → List (List Cell)
-cells_from judged n rows = map (λ p. cells_of judged p.0 p.1) (enumerate_from n rows)
+abbrev cells_from : Bool → Bool → ℕ → List JobRow → List (List Cell)
+cells_from judged sure n rows = map (λ p. cells_of judged sure p.0 p.1) (enumerate_from n rows)
 
-cells_push : (judged : Bool) (n last : ℕ) (rows : List JobRow) (row : JobRow) → last ≡ n + length rows →
-    cells_from judged n (rows ++ row ∷ []) ≡ cells_from judged n rows ++ cells_of judged last row ∷ []
-cells_push judged n last [] row is =
+cells_push : (judged sure : Bool) (n last : ℕ) (rows : List JobRow) (row : JobRow) → last ≡ n + length rows →
+    cells_from judged sure n (rows ++ row ∷ []) ≡ cells_from judged sure n rows ++ cells_of judged sure last row ∷ []
+cells_push judged sure n last [] row is =
     let same : n ≡ last = omega (arith, is) in
-    ap (λ i. cells_of judged i row ∷ []) same
-cells_push judged n last (first ∷ rows) row is =
+    ap (λ i. cells_of judged sure i row ∷ []) same
+cells_push judged sure n last (first ∷ rows) row is =
     let next : last ≡ (n + 1) + length rows = omega (arith, is) in
-    ap (λ cells. cells_of judged n first ∷ cells) (cells_push judged (n + 1) last rows row next)
+    ap (λ cells. cells_of judged sure n first ∷ cells) (cells_push judged sure (n + 1) last rows row next)
 
-next_cells : (judged : Bool) (rows : List JobRow) (i : ℕ) (row : JobRow) → i < length rows → row ≡ get_or rows i row →
-    cells_from judged 1 (take (i + 1) rows) ≡ cells_from judged 1 (take i rows) ++ cells_of judged (i + 1) row ∷ []
-next_cells judged rows i row within is =
+next_cells : (judged sure : Bool) (rows : List JobRow) (i : ℕ) (row : JobRow) → i < length rows → row ≡ get_or rows i row →
+    cells_from judged sure 1 (take (i + 1) rows) ≡ cells_from judged sure 1 (take i rows) ++ cells_of judged sure (i + 1) row ∷ []
+next_cells judged sure rows i row within is =
     let next : i + 1 ≡ 1 + length (take i rows) = omega (arith, length-take-le i rows (omega (arith, within))) in
-    ap (cells_from judged 1) (take_more rows i row within ∙ ap (λ (last : JobRow). take i rows ++ last ∷ []) (sym is))
-    ∙ cells_push judged 1 (i + 1) (take i rows) row next
+    ap (cells_from judged sure 1) (take_more rows i row within ∙ ap (λ (last : JobRow). take i rows ++ last ∷ []) (sym is))
+    ∙ cells_push judged sure 1 (i + 1) (take i rows) row next
 
 -- the table of the rows so far, and a row more
-pub one_more_row : (judged : Bool) (rows : List JobRow) (i : ℕ) (row : JobRow) (table : Table) (cells : List Cell) → i < length rows → row ≡ get_or rows i row →
-    table ≡ table_with judged (take i rows) → cells ≡ cells_of judged (i + 1) row →
-    record { columns = table.columns; rows = table.rows ++ cells ∷ [] } ≡ table_with judged (take (i + 1) rows)
-one_more_row judged rows i row table cells within is so_far made = rw (so_far, made, next_cells judged rows i row within is) refl
+pub one_more_row : (judged sure : Bool) (rows : List JobRow) (i : ℕ) (row : JobRow) (table : Table) (cells : List Cell) → i < length rows → row ≡ get_or rows i row →
+    table ≡ table_with judged sure (take i rows) → cells ≡ cells_of judged sure (i + 1) row →
+    record { columns = table.columns; rows = table.rows ++ cells ∷ [] } ≡ table_with judged sure (take (i + 1) rows)
+one_more_row judged sure rows i row table cells within is so_far made = rw (so_far, made, next_cells judged sure rows i row within is) refl
 
 -- a text without the byte at its end
 without_end : (text : List ℕ) (end : ℕ) → take (length (text ++ end ∷ []) - 1) (text ++ end ∷ []) ≡ text

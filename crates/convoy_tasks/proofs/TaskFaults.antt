@@ -46,7 +46,9 @@ use Rattle.convoy_plans.specs.declared.fault.PlanFault.{PlanFault}
 use Rattle.convoy_plans.specs.declared.fault.PlanFault.TheVariants as plans
 use Rattle.convoy_best_order.specs.declared.wanted.Wanted.{Wanted}
 use Rattle.convoy_best_plan.specs.Answers.{PlacingSays, PlanSays}
+use Rattle.convoy_plan_checker.specs.PlanCheckAnswers.{PlanCheckSays}
 use Rattle.convoy_plan_ceilings.specs.Answers.{CeilingPlacingSays, PlanCeilingSays}
+use Rattle.convoy_plan_proof.specs.PlanProofs.{PlanProofSays}
 use Rattle.convoy_ranges.specs.Answers.{ranges_text}
 use Rattle.convoy_ranges.specs.declared.asked.RangeRules.{RangeRules}
 use Rattle.convoy_ranges.specs.declared.fault.RangesFault.{RangesFault}
@@ -57,12 +59,17 @@ use Rattle.convoy_sweep.specs.declared.fault.SweepFault.TheVariants as sweeps
 use Rattle.convoy_sweep.specs.declared.kinds.Setting.{Setting}
 use Rattle.convoy_sweep.specs.declared.kinds.Sweep.{Sweep as AskedSweep}
 use Rattle.convoy_tasks.specs.declared.task.Task.{Task}
-use Rattle.convoy_tasks.specs.declared.task.Task.TheVariants.{First, Tell, Check, Explain, Draw, Ceiling, Ceilings, Kinds, WorstKind, Fits, Analyse, Latency, Survey, WhatIf, Report, Budget, Order, Listing, Plan, Placing, PlanCeiling, CeilingPlacing, Ranges, Sweep, Curve, BatchTable}
+use Rattle.convoy_tasks.specs.declared.task.Task.TheVariants.{First, Tell, Check, Explain, Draw, Ceiling, Ceilings, Kinds, WorstKind, Fits, Analyse, Latency, Survey, WhatIf, Report, Budget, Order, Listing, Plan, Placing, PlanCertificate, PlanCeiling, CeilingPlacing, CheckPlan, Ranges, TraceRanges, TraceTable, Beside, Sweep, Curve, BatchTable}
 use Rattle.convoy_tasks.specs.Abouts.{check_says}
 use Rattle.convoy_traces.specs.declared.fault.TraceFault.{TraceFault}
 use Rattle.convoy_traces.specs.declared.fault.TraceFault.TheVariants as traces
-use Rattle.convoy_tasks.specs.FitsAnswers.{trace_says}
+use Rattle.convoy_fits_told.specs.declared.skew.Skew.{Skew}
+use Rattle.convoy_tasks.specs.FitsAnswers.{JudgedSays, is_unmeasured, says_by, trace_says}
 use Rattle.convoy_tasks.specs.KindAnswers.{AreFaultyKinds}
+use Rattle.convoy_tasks.specs.LinkAnswers.{beside_reply, beside_says, links_told as links_told_of}
+use Rattle.convoy_trace_ranges.specs.Answers.{trace_ranges_text}
+use Rattle.convoy_trace_ranges.specs.Beside.{beside_told}
+use Rattle.convoy_trace_ranges.specs.LinkTables.{trace_table_text}
 use Rattle.convoy_tasks.specs.Tasks.{task_says}
 
 -- the fault of an answer is that of the reply
@@ -170,13 +177,17 @@ no_device_in_plan plans.NoPlace = tt
 no_device_in_plan plans.NoRange = tt
 no_device_in_plan plans.NoPlacement = tt
 
-plan_no_device : (format : Format) (wanted : Wanted) (with_reasons : Bool) (asked : Asked) (settings : Settings) (text : List ℕ) (fault : Fault) → PlanSays format wanted with_reasons asked settings text (Err fault) → IsNoDevice fault
-plan_no_device format wanted with_reasons asked settings text fault (inl faulty) = rw faulty.told (no_device_in_plan faulty.cause)
-plan_no_device format wanted with_reasons asked settings text fault (inr none) = rw none.told tt
+plan_no_device : (format : Format) (wanted : Wanted) (with_reasons : Bool) (first : Option ℕ) (asked : Asked) (settings : Settings) (text : List ℕ) (fault : Fault) → PlanSays format wanted with_reasons first asked settings text (Err fault) → IsNoDevice fault
+plan_no_device format wanted with_reasons first asked settings text fault (inl faulty) = rw faulty.told (no_device_in_plan faulty.cause)
+plan_no_device format wanted with_reasons first asked settings text fault (inr none) = rw none.told tt
 
-placing_no_device : (wanted : Wanted) (asked : Asked) (settings : Settings) (text : List ℕ) (fault : Fault) → PlacingSays wanted asked settings text (Err fault) → IsNoDevice fault
-placing_no_device wanted asked settings text fault (inl faulty) = rw faulty.told (no_device_in_plan faulty.cause)
-placing_no_device wanted asked settings text fault (inr none) = rw none.told tt
+placing_no_device : (wanted : Wanted) (first : ℕ) (asked : Asked) (settings : Settings) (text : List ℕ) (fault : Fault) → PlacingSays wanted first asked settings text (Err fault) → IsNoDevice fault
+placing_no_device wanted first asked settings text fault (inl faulty) = rw faulty.told (no_device_in_plan faulty.cause)
+placing_no_device wanted first asked settings text fault (inr none) = rw none.told tt
+
+plan_proof_no_device : (wanted : Wanted) (asked : Asked) (text : List ℕ) (fault : Fault) → PlanProofSays wanted asked text (Err fault) → IsNoDevice fault
+plan_proof_no_device wanted asked text fault (inl faulty) = rw faulty.told (no_device_in_plan faulty.cause)
+plan_proof_no_device wanted asked text fault (inr none) = rw none.told tt
 
 plan_ceiling_no_device : (format : Format) (wanted : Wanted) (asked : Asked) (unit : Option TimeUnit) (text : List ℕ) (fault : Fault) → PlanCeilingSays format wanted asked unit text (Err fault) → IsNoDevice fault
 plan_ceiling_no_device format wanted asked unit text fault (inl faulty) = rw faulty.told (no_device_in_plan faulty.cause)
@@ -185,6 +196,9 @@ plan_ceiling_no_device format wanted asked unit text fault (inr none) = rw none.
 ceiling_placing_no_device : (wanted : Wanted) (asked : Asked) (text : List ℕ) (fault : Fault) → CeilingPlacingSays wanted asked text (Err fault) → IsNoDevice fault
 ceiling_placing_no_device wanted asked text fault (inl faulty) = rw faulty.told (no_device_in_plan faulty.cause)
 ceiling_placing_no_device wanted asked text fault (inr none) = rw none.told tt
+
+plan_check_no_device : (wanted : Wanted) (asked : Asked) (text : List ℕ) (fault : Fault) → PlanCheckSays wanted asked text (Err fault) → IsNoDevice fault
+plan_check_no_device wanted asked text fault says = rw says.faulty.told (no_device_in_plan says.faulty.cause)
 
 -- why a text is that of no kinds of messages is no device's fault
 no_device_in_kinds : (cause : KindsFault) → IsNoDevice (told_of_kinds cause)
@@ -202,11 +216,33 @@ no_device_in_trace : (cause : TraceFault) → IsNoDevice (told_of_trace cause)
 no_device_in_trace traces.Empty = tt
 no_device_in_trace (traces.Line line cause) = tt
 no_device_in_trace (traces.TooFine parts) = tt
+no_device_in_trace traces.NoPacket = tt
 no_device_in_trace traces.Memory = tt
 
-trace_no_device : (wanted : Option Scenario) (unit : Option TimeUnit) (text : List ℕ) (fault : Fault) → trace_says wanted unit text (Err fault) → IsNoDevice fault
-trace_no_device None unit text fault is = cc
-trace_no_device (Some scenario) unit text fault faulty = rw faulty.told (no_device_in_trace faulty.cause)
+judged_no_device : (scenario : Scenario) (skew : Skew) (unit : Option TimeUnit) (text : List ℕ) (fault : Fault) → JudgedSays scenario skew unit text (Err fault) → IsNoDevice fault
+judged_no_device scenario skew unit text fault faulty = rw faulty.told (no_device_in_trace faulty.cause)
+
+skew_no_device : (none : Bool) (scenario : Scenario) (skew : Skew) (unit : Option TimeUnit) (text : List ℕ) (fault : Fault)
+    → says_by none scenario skew unit text (Err fault) → IsNoDevice fault
+skew_no_device true scenario skew unit text fault is = cc
+skew_no_device false scenario skew unit text fault faulty = judged_no_device scenario skew unit text fault faulty
+
+trace_no_device : (wanted : Option Scenario) (skew : Skew) (unit : Option TimeUnit) (text : List ℕ) (fault : Fault) → trace_says wanted skew unit text (Err fault)
+    → IsNoDevice fault
+trace_no_device None skew unit text fault is = cc
+trace_no_device (Some scenario) skew unit text fault says = skew_no_device (is_unmeasured scenario skew) scenario skew unit text fault says
+
+links_no_device : (answer : Result (List ℕ) TraceFault) (fault : Fault) → links_told_of answer ≡ Err fault → IsNoDevice fault
+links_no_device (Ok links) fault is = cc
+links_no_device (Err cause) fault is = let same : fault ≡ told_of_trace cause = cc in rw same (no_device_in_trace cause)
+
+told_beside_no_device : (answer : Result (Bool × List ℕ) TraceFault) (fault : Fault) → Err fault ≡ beside_reply answer → IsNoDevice fault
+told_beside_no_device (Ok (left, out)) fault is = cc
+told_beside_no_device (Err cause) fault is = let same : fault ≡ told_of_trace cause = cc in rw same (no_device_in_trace cause)
+
+beside_no_device : (wanted : Option Scenario) (format : Format) (unit : Option TimeUnit) (text : List ℕ) (fault : Fault) → beside_says wanted format unit text (Err fault) → IsNoDevice fault
+beside_no_device None format unit text fault is = cc
+beside_no_device (Some scenario) format unit text fault is = told_beside_no_device (beside_told format unit scenario text) fault is
 
 pub says_no_device : (task : Task) (wanted : Option Scenario) (text : List ℕ) (fault : Fault) → task_says task wanted text (Err fault) → IsNoDevice fault
 says_no_device (First asked) wanted text fault says = first_no_device asked text fault (fault_of_fine (first_text asked text) fault says)
@@ -221,7 +257,7 @@ says_no_device (Ceiling simulations asked unit) wanted text fault says = search_
 says_no_device (Ceilings format group simulations asked unit) wanted text fault says = ceilings_no_device format asked unit (option_map string_bytes group) text fault says
 says_no_device (Kinds format unit) wanted text fault says = kinds_no_device text fault says
 says_no_device (WorstKind simulations unit) wanted text fault says = kinds_no_device text fault says
-says_no_device (Fits unit) wanted text fault says = trace_no_device wanted unit text fault says
+says_no_device (Fits skew unit) wanted text fault says = trace_no_device wanted skew unit text fault says
 says_no_device (Analyse asked options) wanted text fault says = search_no_device asked text fault says
 says_no_device (Latency with_ceiling asked options) wanted text fault says = latency_no_device with_ceiling asked options text fault says
 says_no_device (Survey format with_ceilings asked options) wanted text fault says = search_no_device asked text fault says
@@ -230,11 +266,18 @@ says_no_device (Report asked options) wanted text fault says = report_no_device 
 says_no_device (Budget format of_all of_ceiling asked options) wanted text fault says = budget_no_device format of_all of_ceiling asked options text fault says
 says_no_device (Order format wanting with_reasons asked options) wanted text fault says = search_no_device asked text fault says
 says_no_device (Ranges rules) wanted text fault says = ranges_no_device rules text fault says
+says_no_device (TraceRanges rules unit) wanted text fault says =
+    links_no_device (trace_ranges_text rules unit text) fault (fault_of_fine (links_told_of (trace_ranges_text rules unit text)) fault says)
+says_no_device (TraceTable format unit) wanted text fault says =
+    links_no_device (trace_table_text format unit text) fault (fault_of_fine (links_told_of (trace_table_text format unit text)) fault says)
+says_no_device (Beside format unit) wanted text fault says = beside_no_device wanted format unit text fault says
 says_no_device (Listing wanting asked options) wanted text fault says = search_no_device asked text fault says
-says_no_device (Plan format wanting with_reasons asked options) wanted text fault says = plan_no_device format wanting with_reasons asked options text fault says
-says_no_device (Placing wanting asked options) wanted text fault says = placing_no_device wanting asked options text fault says
+says_no_device (Plan format wanting with_reasons first asked options) wanted text fault says = plan_no_device format wanting with_reasons first asked options text fault says
+says_no_device (Placing wanting first asked options) wanted text fault says = placing_no_device wanting first asked options text fault says
+says_no_device (PlanCertificate wanting asked options) wanted text fault says = plan_proof_no_device wanting asked text fault says
 says_no_device (PlanCeiling format wanting asked unit) wanted text fault says = plan_ceiling_no_device format wanting asked unit text fault says
 says_no_device (CeilingPlacing wanting asked) wanted text fault says = ceiling_placing_no_device wanting asked text fault says
+says_no_device (CheckPlan wanting asked) wanted text fault says = plan_check_no_device wanting asked text fault says
 says_no_device (Sweep format sweep envelope asked options) wanted text fault says = sweep_no_device format sweep envelope asked options text fault says
 says_no_device (Curve setting envelope asked options) wanted text fault says = curve_no_device setting envelope asked options text fault says
 says_no_device (BatchTable format asked options tells_status) wanted text fault says = rw says.0 tt

@@ -8,6 +8,7 @@ use Rattle.convoy_commands.specs.declared.fault.Fault.{Fault}
 use Rattle.convoy_commands.specs.declared.verdict.Verdict.{Verdict}
 use Rattle.convoy_commands.specs.CommandLaws.{TellsFailures, VerdictSays}
 use Rattle.convoy_commands.specs.Measured.{measure_of_text}
+use Rattle.convoy_commands.specs.Outsides.{outside_text}
 use Rattle.convoy_commands.specs.ReplyLines.{greatest_line}
 use Rattle.convoy_commands.specs.Replies.{Rule}
 use Rattle.convoy_commands.specs.Searches.{IsGreatestTold}
@@ -26,14 +27,15 @@ BatchFailuresAreTold says =
     (most_reads : ℕ) (reads writes : List Answer) (result : Result Done Fault) →
     BatchRunsTo says most_reads reads writes result → TellsFailures reads writes result
 
--- The greatest latency that `latency` finds for a job's text is the number in the job's row, and it tells the verdict on that by the deadline there, whatever the settings of either.
+-- The greatest latency that `latency` finds for a job's text is the number in the job's row, and it tells the verdict on that by the deadline there, and how sure the ranges are by the share there, whatever the settings of either.
 abbrev pub JobRowsAreLatencies : Type 0
 JobRowsAreLatencies =
     (asked : Asked) (settings other : Settings) (text out : List ℕ) (end : Done) (found : JobFinding) (latency nodes : ℕ) (cause : Cause) →
     IsSearched asked settings text found → found.finding ≡ Greatest latency cause nodes → IsGreatestTold asked other text end out →
     out
     ≡ greatest_line (measure_of_text other.unit text found.instance) latency
-    ++ verdict_text (measure_of_text other.unit text found.instance) found.deadline latency latency
+    ++ (verdict_text (measure_of_text other.unit text found.instance) found.deadline latency latency
+    ++ outside_text found.outside)
 
 -- The two numbers of a job's row, `least` and `most`, enclose the greatest latency of the job's scenario, whether or not the search ended.
 abbrev pub JobRowsEnclose : Type 0

@@ -13,6 +13,7 @@ use Rattle.convoy_commands.specs.declared.fault.Fault.{Fault}
 use Rattle.convoy_commands.specs.declared.fault.Fault.TheVariants.{Memory, Reading}
 use Rattle.convoy_commands.specs.declared.limits.TheConstants.{LONGEST_JOB}
 use Rattle.convoy_commands.specs.Measured.{measure_of_text}
+use Rattle.convoy_commands.specs.Outsides.{outside_of_text}
 use Rattle.convoy_commands.specs.Searches.{IsFaultyBy}
 use Rattle.convoy_commands.specs.Verdicts.{judged, target_deadline}
 use Rattle.convoy_survey.specs.declared.finding.Finding.{Finding}
@@ -23,11 +24,12 @@ use Rattle.convoy_tasks.specs.declared.job_row.JobRow.{JobRow}
 use Rattle.convoy_tasks.specs.declared.kept_jobs.KeptJob.{KeptJob}
 use Rattle.convoy_tasks.specs.KeptJobs.{IsKeptJob}
 
--- A search for the scenario of a text, where that is asked, found that of the latency that is asked there; and times are told, and the target has a deadline, as `latency` tells it of the text.
+-- A search for the scenario of a text, where that is asked, found that of the latency that is asked there; and times are told, the target has a deadline, and ranges are as sure, as `latency` tells it of the text.
 pub record IsSearched (asked : Asked) (settings : Settings) (text : List ℕ) (found : JobFinding) : Type 0 where
   pub read : scenario_of_text_by asked text ≡ Ok found.instance
   pub measured : found.measure ≡ measure_of_text settings.unit text found.instance
   pub deadline : found.deadline ≡ target_deadline asked text found.instance
+  pub outside : found.outside ≡ outside_of_text text found.instance
   pub finding : IsFinding settings found.instance found.finding
 
 -- what may be found for a text: by a search, or the fault of the text; or, as with each command, that memory ran out

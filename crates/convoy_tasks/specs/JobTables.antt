@@ -7,6 +7,7 @@ use Rattle.convoy_tables.specs.Tables.{Cell, Table, nothing, number, word}
 use Rattle.convoy_commands.specs.declared.fault.Fault.{Fault}
 use Rattle.convoy_commands.specs.Faults.{fault_line_of}
 use Rattle.convoy_times.specs.declared.measure.Measure.{Measure}
+use Rattle.convoy_outside.specs.Percents.{percent_of}
 use Rattle.convoy_survey.specs.Cells.{answer_cells, answer_columns, cause_cells, cause_columns, tick_cells, time_cells, time_columns}
 use Rattle.convoy_survey.specs.Findings.{least_of, most_of}
 use Rattle.convoy_survey.specs.Judgements.{verdict_cells, verdict_columns}
@@ -56,9 +57,32 @@ abbrev pub found_cells : Bool → Result JobFinding Fault → List Cell
 found_cells judged (Ok found) = searched_cells found ++ verdict_cells_of judged found
 found_cells judged (Err fault) = fault_cells fault ++ verdict_cells judged (times_by None) None None None
 
--- the cells of the row of the job of that number
-abbrev pub cells_of : Bool → ℕ → JobRow → List Cell
-cells_of judged n row = number n ∷ label_cell row.label.items ∷ found_cells judged row.found
+-- in at most which share of runs a packet leaves its range, in per cent, or nothing where that is not known
+abbrev pub outside_cell : Option ℕ → Cell
+outside_cell None = nothing
+outside_cell (Some billionths) = word (percent_of billionths ++ codes " %")
+
+-- the same of the job of a row
+abbrev pub outside_of_row : JobRow → Option ℕ
+outside_of_row row = by_found row.found where
+  by_found : Result JobFinding Fault → Option ℕ
+  by_found (Ok found) = found.outside
+  by_found (Err fault) = None
+
+-- that cell, in a table that tells it
+abbrev pub outside_cells : Bool → JobRow → List Cell
+outside_cells false row = []
+outside_cells true row = outside_cell (outside_of_row row) ∷ []
+
+-- the name of its column
+abbrev pub outside_columns : Bool → List Cell
+outside_columns false = []
+outside_columns true = word (codes "outside") ∷ []
+
+-- the cells of the row of the job of that number, in a table that is judged or not, and tells how sure ranges are or not
+abbrev pub cells_of : Bool → Bool → ℕ → JobRow → List Cell
+cells_of judged sure n row =
+    number n ∷ label_cell row.label.items ∷ (found_cells judged row.found ++ outside_cells sure row)
 
 -- the names of the columns that tell what was found
 abbrev pub found_columns : List Cell
@@ -67,8 +91,8 @@ found_columns =
     ∷ (answer_columns ++ (time_columns (times_by None) ++ (word (codes "tick") ∷ cause_columns)))
 
 -- the names of all columns
-abbrev pub column_names : Bool → List Cell
-column_names judged = found_columns ++ verdict_columns judged (times_by None)
+abbrev pub column_names : Bool → Bool → List Cell
+column_names judged sure = found_columns ++ (verdict_columns judged (times_by None) ++ outside_columns sure)
 
 -- the target of a job has a deadline
 abbrev pub has_deadline : JobRow → Bool
@@ -77,11 +101,15 @@ has_deadline row = by_found row.found where
   by_found (Ok found) = is_some found.deadline
   by_found (Err fault) = false
 
--- the table of these rows, which are those of the jobs from 1 on, judged or not
-abbrev pub table_with : Bool → List JobRow → Table
-table_with judged rows =
-    record { columns = column_names judged; rows = map (λ p. cells_of judged p.0 p.1) (enumerate_from 1 rows) }
+-- the links of a job tell how sure its ranges are
+abbrev pub is_sure : JobRow → Bool
+is_sure row = is_some (outside_of_row row)
 
--- the table of these rows: it is judged where one of them has a deadline for its target
+-- the table of these rows, which are those of the jobs from 1 on, judged or not, and with or without how sure ranges are
+abbrev pub table_with : Bool → Bool → List JobRow → Table
+table_with judged sure rows =
+    record { columns = column_names judged sure; rows = map (λ p. cells_of judged sure p.0 p.1) (enumerate_from 1 rows) }
+
+-- the table of these rows: it is judged where one of them has a deadline for its target, and tells how sure ranges are where the links of one tell that
 abbrev pub table_of : List JobRow → Table
-table_of rows = table_with (list_any has_deadline rows) rows
+table_of rows = table_with (list_any has_deadline rows) (list_any is_sure rows) rows

@@ -23,6 +23,7 @@ pub use Rattle.convoy_commands.specs.ReplyLines
 pub use Rattle.convoy_commands.specs.Refusals
 pub use Rattle.convoy_commands.specs.Replies
 pub use Rattle.convoy_commands.specs.Verdicts
+pub use Rattle.convoy_outside.specs.Percents
 pub use Rattle.convoy_commands.specs.Withins
 pub use Rattle.convoy_commands.specs.WithCeilings
 pub use Rattle.convoy_commands.specs.Searches
@@ -35,18 +36,23 @@ pub use Rattle.convoy_budget.specs.Answers as BudgetAnswers
 pub use Rattle.convoy_best_order.specs.Answers as OrderAnswers
 pub use Rattle.convoy_best_plan.specs.Answers as PlanAnswers
 pub use Rattle.convoy_plan_ceilings.specs.Answers as PlanCeilingAnswers
+pub use Rattle.convoy_plan_proof.specs.PlanProofs
 pub use Rattle.convoy_kinds.specs.Kinds
 pub use Rattle.convoy_kinds.specs.Ceilings as KindCeilings
 pub use Rattle.convoy_kinds.specs.Reading as KindReading
 pub use Rattle.convoy_kinds_told.specs.KindTables
 pub use Rattle.convoy_kinds_told.specs.Worst
 pub use Rattle.convoy_fits_told.specs.Told
+pub use Rattle.convoy_trace_ranges.specs.Answers as TraceRanges
+pub use Rattle.convoy_trace_ranges.specs.LinkTables
+pub use Rattle.convoy_trace_ranges.specs.Beside
 pub use Rattle.convoy_scenario.specs.Differences
 -- what a reader has to believe: what is told of what was accepted, what may be answered for each task, and what its run does at its devices
 pub mod AcceptedLines
 pub mod Abouts
 pub mod KindAnswers
 pub mod FitsAnswers
+pub mod LinkAnswers
 pub mod Tasks
 pub mod Runs
 pub mod TaskLaws

@@ -21,16 +21,19 @@ use Rattle.convoy_report.specs.Reports.{ReportSays}
 use Rattle.convoy_budget.specs.Answers.{BudgetSays}
 use Rattle.convoy_best_order.specs.Answers.{ListingSays, OrderSays}
 use Rattle.convoy_best_plan.specs.Answers.{PlacingSays, PlanSays}
+use Rattle.convoy_plan_checker.specs.PlanCheckAnswers.{PlanCheckSays}
 use Rattle.convoy_plan_ceilings.specs.Answers.{CeilingPlacingSays, PlanCeilingSays}
+use Rattle.convoy_plan_proof.specs.PlanProofs.{PlanProofSays}
 use Rattle.convoy_ranges.specs.declared.fault.TheConstants.{MOST_BYTES}
 use Rattle.convoy_sweep.specs.Told.{CurveTold, SweepTold}
 use Rattle.convoy_tasks.specs.declared.batch_table.TheConstants.{LONGEST_BATCH}
 use Rattle.convoy_tasks.specs.BatchTables.{BatchTableSays}
 use Rattle.convoy_tasks.specs.declared.task.Task.{Task}
-use Rattle.convoy_tasks.specs.declared.task.Task.TheVariants.{First, Tell, Check, Explain, Draw, Ceiling, Ceilings, Kinds, WorstKind, Fits, Analyse, Latency, Survey, WhatIf, Report, Budget, Order, Listing, Plan, Placing, PlanCeiling, CeilingPlacing, Ranges, Sweep, Curve, BatchTable}
+use Rattle.convoy_tasks.specs.declared.task.Task.TheVariants.{First, Tell, Check, Explain, Draw, Ceiling, Ceilings, Kinds, WorstKind, Fits, Analyse, Latency, Survey, WhatIf, Report, Budget, Order, Listing, Plan, Placing, PlanCertificate, PlanCeiling, CeilingPlacing, CheckPlan, Ranges, TraceRanges, TraceTable, Beside, Sweep, Curve, BatchTable}
 use Rattle.convoy_tasks.specs.Abouts.{check_says}
 use Rattle.convoy_tasks.specs.FitsAnswers.{trace_says}
 use Rattle.convoy_tasks.specs.KindAnswers.{KindTableSays, WorstKindSays}
+use Rattle.convoy_tasks.specs.LinkAnswers.{TraceRangesSay, TraceTableSays, beside_says}
 
 -- THE RULE OF A TASK: what may be answered for a text. The scenario that is wanted, if one is, is that of which a certificate has to be, or a trace; no other task looks at it.
 abbrev pub task_says : Task → Option Scenario → Rule
@@ -43,7 +46,7 @@ task_says (Ceiling simulations asked unit) wanted = CeilingSays asked unit
 task_says (Ceilings format group simulations asked unit) wanted = CeilingsSay format asked unit (option_map string_bytes group)
 task_says (Kinds format unit) wanted = KindTableSays format unit
 task_says (WorstKind simulations unit) wanted = WorstKindSays unit
-task_says (Fits unit) wanted = trace_says wanted unit
+task_says (Fits skew unit) wanted = trace_says wanted skew unit
 task_says (Analyse asked options) wanted = AnalyseSays asked options
 task_says (Latency with_ceiling asked options) wanted = latency_says with_ceiling asked options
 task_says (Survey format with_ceilings asked options) wanted = SurveySays format with_ceilings asked options
@@ -52,11 +55,16 @@ task_says (Report asked options) wanted = ReportSays asked options
 task_says (Budget format of_all of_ceiling asked options) wanted = BudgetSays format of_all of_ceiling asked options
 task_says (Order format wanting with_reasons asked options) wanted = OrderSays format wanting with_reasons asked options
 task_says (Ranges rules) wanted = RangesSay rules
+task_says (TraceRanges rules unit) wanted = TraceRangesSay rules unit
+task_says (TraceTable format unit) wanted = TraceTableSays format unit
+task_says (Beside format unit) wanted = beside_says wanted format unit
 task_says (Listing wanting asked options) wanted = ListingSays wanting asked options
-task_says (Plan format wanting with_reasons asked options) wanted = PlanSays format wanting with_reasons asked options
-task_says (Placing wanting asked options) wanted = PlacingSays wanting asked options
+task_says (Plan format wanting with_reasons first asked options) wanted = PlanSays format wanting with_reasons first asked options
+task_says (Placing wanting first asked options) wanted = PlacingSays wanting first asked options
+task_says (PlanCertificate wanting asked options) wanted = PlanProofSays wanting asked
 task_says (PlanCeiling format wanting asked unit) wanted = PlanCeilingSays format wanting asked unit
 task_says (CeilingPlacing wanting asked) wanted = CeilingPlacingSays wanting asked
+task_says (CheckPlan wanting asked) wanted = PlanCheckSays wanting asked
 task_says (Sweep format sweep envelope asked options) wanted = SweepTold format sweep envelope asked options
 task_says (Curve setting envelope asked options) wanted = CurveTold setting envelope asked options
 task_says (BatchTable format asked options tells_status) wanted = BatchTableSays format asked options
@@ -72,7 +80,7 @@ longest_for (Ceiling simulations asked unit) = LONGEST_JOB
 longest_for (Ceilings format group simulations asked unit) = LONGEST_JOB
 longest_for (Kinds format unit) = LONGEST_JOB
 longest_for (WorstKind simulations unit) = LONGEST_JOB
-longest_for (Fits unit) = LONGEST_CERTIFICATE
+longest_for (Fits skew unit) = LONGEST_CERTIFICATE
 longest_for (Analyse asked options) = LONGEST_JOB
 longest_for (Latency with_ceiling asked options) = LONGEST_JOB
 longest_for (Survey format with_ceilings asked options) = LONGEST_JOB
@@ -81,11 +89,16 @@ longest_for (Report asked options) = LONGEST_JOB
 longest_for (Budget format of_all of_ceiling asked options) = LONGEST_JOB
 longest_for (Order format wanting with_reasons asked options) = LONGEST_JOB
 longest_for (Ranges rules) = MOST_BYTES
+longest_for (TraceRanges rules unit) = LONGEST_CERTIFICATE
+longest_for (TraceTable format unit) = LONGEST_CERTIFICATE
+longest_for (Beside format unit) = LONGEST_CERTIFICATE
 longest_for (Listing wanting asked options) = LONGEST_JOB
-longest_for (Plan format wanting with_reasons asked options) = LONGEST_JOB
-longest_for (Placing wanting asked options) = LONGEST_JOB
+longest_for (Plan format wanting with_reasons first asked options) = LONGEST_JOB
+longest_for (Placing wanting first asked options) = LONGEST_JOB
+longest_for (PlanCertificate wanting asked options) = LONGEST_JOB
 longest_for (PlanCeiling format wanting asked unit) = LONGEST_JOB
 longest_for (CeilingPlacing wanting asked) = LONGEST_JOB
+longest_for (CheckPlan wanting asked) = LONGEST_CERTIFICATE
 longest_for (Sweep format sweep envelope asked options) = LONGEST_JOB
 longest_for (Curve setting envelope asked options) = LONGEST_JOB
 longest_for (BatchTable format asked options tells_status) = LONGEST_BATCH
@@ -101,8 +114,9 @@ NeedsNoSearch (Report asked options) = ⊥
 NeedsNoSearch (Budget format of_all of_ceiling asked options) = ⊥
 NeedsNoSearch (Order format wanting with_reasons asked options) = ⊥
 NeedsNoSearch (Listing wanting asked options) = ⊥
-NeedsNoSearch (Plan format wanting with_reasons asked options) = ⊥
-NeedsNoSearch (Placing wanting asked options) = ⊥
+NeedsNoSearch (Plan format wanting with_reasons first asked options) = ⊥
+NeedsNoSearch (Placing wanting first asked options) = ⊥
+NeedsNoSearch (PlanCertificate wanting asked options) = ⊥
 NeedsNoSearch (Sweep format sweep envelope asked options) = ⊥
 NeedsNoSearch (Curve setting envelope asked options) = ⊥
 NeedsNoSearch (BatchTable format asked options tells_status) = ⊥

@@ -11,6 +11,7 @@ use super::batch_table::{LONGEST_BATCH, batch_table_answer};
 use super::checking::check_answer;
 use super::fits::answer_fits;
 use super::kinds::{answer_kinds, answer_worst_kind};
+use super::links::{answer_beside, answer_trace_ranges, answer_trace_table};
 use super::task::Task;
 use convoy_best_order::{listing_answer, order_answer};
 use convoy_best_plan::{placing_answer, plan_answer};
@@ -20,6 +21,8 @@ use convoy_commands::{
     ceiling_answer, explain_with_ceiling, first_answer, latency_answer, ranges_answer, tell,
 };
 use convoy_plan_ceilings::{ceiling_placing_answer, plan_ceiling_answer};
+use convoy_plan_checker::plan_check_answer;
+use convoy_plan_proof::plan_proof_answer;
 use convoy_ranges::MOST_BYTES;
 use convoy_report::report_answer;
 use convoy_scenario::{Scenario, TimeUnit};
@@ -132,6 +135,7 @@ pub fn answer<R: Threads + Wait + Sync, W: Watch + Sync>(
             format,
             wanted,
             with_reasons,
+            first,
             asked,
             options,
         } => plan_answer(
@@ -140,6 +144,7 @@ pub fn answer<R: Threads + Wait + Sync, W: Watch + Sync>(
             *format,
             *wanted,
             *with_reasons,
+            *first,
             asked,
             options,
             text,
@@ -147,9 +152,15 @@ pub fn answer<R: Threads + Wait + Sync, W: Watch + Sync>(
         ),
         Task::Placing {
             wanted,
+            first,
             asked,
             options,
-        } => placing_answer(rt, alloc, *wanted, asked, options, text, watches),
+        } => placing_answer(rt, alloc, *wanted, *first, asked, options, text, watches),
+        Task::PlanCertificate {
+            wanted,
+            asked,
+            options,
+        } => plan_proof_answer(rt, alloc, *wanted, asked, options, text, watches),
         Task::Sweep {
             format,
             sweep,
@@ -194,11 +205,15 @@ pub fn answer<R: Threads + Wait + Sync, W: Watch + Sync>(
         | Task::Explain { .. }
         | Task::Draw { .. }
         | Task::Ranges { .. }
+        | Task::TraceRanges { .. }
+        | Task::TraceTable { .. }
+        | Task::Beside { .. }
         | Task::Kinds { .. }
         | Task::WorstKind { .. }
         | Task::Fits { .. }
         | Task::PlanCeiling { .. }
         | Task::CeilingPlacing { .. }
+        | Task::CheckPlan { .. }
         | Task::Ceiling { .. } => answer_at_once(alloc, task, wanted, text),
     }
 }
@@ -238,6 +253,7 @@ pub(crate) fn answer_at_once(
             asked,
             unit,
         } => plan_ceiling_answer(alloc, *format, *wanted, asked, *unit, text),
+        Task::CheckPlan { wanted, asked } => plan_check_answer(alloc, *wanted, asked, text),
         Task::CeilingPlacing { wanted, asked } => ceiling_placing_answer(
             alloc, *wanted, asked, text,
         ),
@@ -248,7 +264,10 @@ pub(crate) fn answer_at_once(
             *unit,
             text,
         ),
-        Task::Fits { unit } => answer_fits(alloc, wanted, *unit, text),
+        Task::Fits { skew, unit } => answer_fits(alloc, wanted, *skew, *unit, text),
+        Task::TraceRanges { rules, unit } => answer_trace_ranges(alloc, rules, *unit, text),
+        Task::TraceTable { format, unit } => answer_trace_table(alloc, *format, *unit, text),
+        Task::Beside { format, unit } => answer_beside(alloc, wanted, *format, *unit, text),
         Task::Ceilings { .. }
         | Task::Analyse { .. }
         | Task::Latency { .. }
@@ -260,6 +279,7 @@ pub(crate) fn answer_at_once(
         | Task::Listing { .. }
         | Task::Plan { .. }
         | Task::Placing { .. }
+        | Task::PlanCertificate { .. }
         | Task::Sweep { .. }
         | Task::Curve { .. }
         | Task::BatchTable { .. } => unreachable!(),
@@ -336,8 +356,12 @@ pub fn longest_of(task: &Task) -> usize
     match task {
         Task::Tell(_)
         | Task::Check { .. }
+        | Task::CheckPlan { .. }
         | Task::Explain { .. }
         | Task::Draw { .. }
+        | Task::TraceRanges { .. }
+        | Task::TraceTable { .. }
+        | Task::Beside { .. }
         | Task::Fits { .. } => LONGEST_CERTIFICATE,
         Task::BatchTable { .. } => LONGEST_BATCH,
         Task::Ranges { .. } => MOST_BYTES,
@@ -356,6 +380,7 @@ pub fn longest_of(task: &Task) -> usize
         | Task::Listing { .. }
         | Task::Plan { .. }
         | Task::Placing { .. }
+        | Task::PlanCertificate { .. }
         | Task::PlanCeiling { .. }
         | Task::CeilingPlacing { .. }
         | Task::Sweep { .. }

@@ -100,7 +100,11 @@ fn end_of_answer(done: Done) -> Done
 {
     match done {
         Done::Fine | Done::Open | Done::Beyond => done,
-        Done::Faulty | Done::Refused(_) | Done::Differs(_) | Done::Departs | Done::NotChecked =>
-            Done::Faulty,
+        Done::Faulty
+        | Done::Refused(_)
+        | Done::PlanRefused
+        | Done::Differs(_)
+        | Done::Departs
+        | Done::NotChecked => Done::Faulty,
     }
 }

@@ -9,6 +9,7 @@ ghost use Rattle.convoy_tasks.specs.KeptJobs.{IsKeptJob};
 use super::kept_jobs::{KeptJob, jobs_of};
 use convoy_branch::Options;
 use convoy_commands::{Done, Fault, LONGEST_JOB, Watch, deadline_at, judged};
+use convoy_outside::outside_told;
 use convoy_packets::Instance;
 use convoy_rows::{all_values, make_each};
 use convoy_streams::{JobFault, ReadFault};
@@ -19,13 +20,15 @@ use std::alloc::{AllocError, Global};
 use std::sync::Wait;
 use std::thread::Threads;
 
-/// The scenario of a job, how its times are told, the deadline of its target in ticks, where this has one, and what a
-/// search found of the latency that is asked there.
+/// The scenario of a job, how its times are told, the deadline of its target in ticks, where this has one, in at most how
+/// many billionths of runs a packet leaves its range, where its links tell that, and what a search found of the latency that
+/// is asked there.
 #[derive(Drop)]
 pub(crate) struct JobFinding {
     pub(crate) instance: Instance,
     pub(crate) measure: Option<Measure>,
     pub(crate) deadline: Option<u32>,
+    pub(crate) outside: Option<u64>,
     pub(crate) finding: Finding,
 }
 
@@ -137,11 +140,13 @@ fn find_text<R: Threads + Wait + Sync, W: Watch + Sync>(
     let measure = Measure::of(&input.scenario, options.unit(), input.unit);
     let deadline = deadline_at(&input.deadlines, input.scenario.target_message());
     let instance = Instance::of(alloc, input.scenario)?;
+    let outside = outside_told(&input.shares, &instance);
     let finding = find(rt, alloc, &instance, options, watch)?;
     Ok(JobFinding {
         instance,
         measure,
         deadline,
+        outside,
         finding,
     })
 }

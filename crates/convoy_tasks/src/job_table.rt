@@ -1,14 +1,16 @@
 //! The table of a batch: a row for each job.
 
-ghost use Rattle.std.specs.Prelude.{◌≡◌, ◌∷◌, [], ◌++◌, None, OnOk, IfOk, string_bytes};
+ghost use Rattle.std.specs.Prelude.{◌≡◌, ◌∷◌, [], ◌++◌, None, OnOk, IfOk, codes, string_bytes};
 ghost use Rattle.std.specs.List.{All, list_any};
 ghost use Rattle.std.specs.Str.{IsUtf8};
 ghost use Rattle.convoy_tables.specs.Formats.{table_text};
-ghost use Rattle.convoy_tasks.specs.JobTables.{cells_of, column_names, fault_cells, fault_words, found_cells, found_columns, has_deadline, verdict_cells_of, label_cell, searched_cells, table_of, table_with, tick_cell, tick_words, times_by};
+ghost use Rattle.convoy_tasks.specs.JobTables.{cells_of, column_names, fault_cells, fault_words, found_cells, found_columns, has_deadline, is_sure, verdict_cells_of, label_cell, outside_cell, outside_cells, outside_columns, outside_of_row, searched_cells, table_of, table_with, tick_cell, tick_words, times_by};
 ghost use Rattle.convoy_survey.specs.Judgements.{verdict_cells};
+ghost use Rattle.convoy_outside.specs.Percents.{percent_of};
 
 use super::job_row::{JobFinding, JobRow};
 use convoy_commands::{Fault, FaultEnding, fault_row};
+use convoy_outside::percent_text;
 use convoy_scenario::Duration;
 use convoy_survey::{
     Times, push_cause, push_ticks, push_times, push_verdict_cells, push_verdict_columns,
@@ -26,12 +28,13 @@ pub(crate) fn text_of(alloc: Global, format: Format, rows: &[JobRow]) -> Result<
     table_text(alloc, &table, format)
 }
 
-/// The table of the rows of jobs, whose labels are texts: it is judged where the target of one of them has a deadline.
+/// The table of the rows of jobs, whose labels are texts: it is judged where the target of one of them has a deadline, and
+/// tells how sure ranges are where the links of one tell that.
 fn table_of(alloc: Global, rows: &[JobRow]) -> Result<Table, AllocError>
     requires labels { All (λ row. IsUtf8 row.label.items) rows.now }
     ensures { IfOk result (λ table. table ≡ table_of rows.now) }
 {
-    table_with(alloc, any_has_deadline(rows), rows)
+    table_with(alloc, any_has_deadline(rows), any_is_sure(rows), rows)
 }
 
 /// Whether the target of one of the jobs has a deadline.
@@ -51,25 +54,61 @@ fn has_deadline(row: &JobRow) -> bool
     }
 }
 
-/// The table of the rows of jobs, whose labels are texts, judged or not.
-fn table_with(alloc: Global, judged: bool, rows: &[JobRow]) -> Result<Table, AllocError>
-    requires labels { All (λ row. IsUtf8 row.label.items) rows.now }
-    ensures { IfOk result (λ table. table ≡ table_with judged rows.now) }
+/// Whether the links of one of the jobs tell how sure its ranges are.
+fn any_is_sure(rows: &[JobRow]) -> bool
+    ensures { result ≡ list_any is_sure rows.now }
 {
-    let mut table = Table::new(alloc, column_names(alloc, judged)?);
+    rows.iter().any(|row| is_sure(row))
+}
+
+/// Whether the links of a job tell how sure its ranges are.
+fn is_sure(row: &JobRow) -> bool
+    ensures { result ≡ is_sure row.now }
+{
+    outside_of_row(row).is_some()
+}
+
+/// In at most how many billionths of the runs of a job a packet leaves its range, where that is known.
+fn outside_of_row(row: &JobRow) -> Option<u64>
+    ensures { result ≡ outside_of_row row.now }
+{
+    match &row.found {
+        Ok(found) => found.outside,
+        Err(_) => None,
+    }
+}
+
+/// The table of the rows of jobs, whose labels are texts, judged or not, and with or without how sure ranges are.
+fn table_with(alloc: Global, judged: bool, sure: bool, rows: &[JobRow]) -> Result<Table, AllocError>
+    requires labels { All (λ row. IsUtf8 row.label.items) rows.now }
+    ensures { IfOk result (λ table. table ≡ table_with judged sure rows.now) }
+{
+    let mut table = Table::new(alloc, column_names(alloc, judged, sure)?);
     for i in 0..rows.len() {
-        table.push(cells_of(alloc, judged, i as u64 + 1, &rows[i])?)?;
+        table.push(cells_of(alloc, judged, sure, i as u64 + 1, &rows[i])?)?;
     }
     Ok(table)
 }
 
 /// The names of the columns.
-fn column_names(alloc: Global, judged: bool) -> Result<Row, AllocError>
-    ensures { IfOk result (λ names. names ≡ column_names judged) }
+#[tactic(auto, using(std::proofs::lemmas::List::append_assoc))]
+fn column_names(alloc: Global, judged: bool, sure: bool) -> Result<Row, AllocError>
+    ensures { IfOk result (λ names. names ≡ column_names judged sure) }
 {
     let mut names = found_columns(alloc)?;
     push_verdict_columns(judged, &times_by(None), &mut names)?;
+    push_outside_columns(sure, &mut names)?;
     Ok(names)
+}
+
+/// Puts the name of the column that tells how sure ranges are at the end of a row, in a table that tells it.
+fn push_outside_columns(sure: bool, names: &mut Row) -> Result<(), AllocError>
+    ensures { OnOk result (names.new ≡ names.old ++ outside_columns sure) }
+{
+    if !sure {
+        return Ok(());
+    }
+    names.push_words(&["outside"])
 }
 
 /// The names of the columns that tell what was found.
@@ -95,15 +134,51 @@ fn found_columns(alloc: Global) -> Result<Row, AllocError>
 }
 
 /// The cells of the row of the job of that number.
-fn cells_of(alloc: Global, judged: bool, number: u64, row: &JobRow) -> Result<Row, AllocError>
+#[tactic(auto, using(std::proofs::lemmas::List::append_assoc))]
+fn cells_of(
+    alloc: Global,
+    judged: bool,
+    sure: bool,
+    number: u64,
+    row: &JobRow,
+) -> Result<Row, AllocError>
     requires { IsUtf8 row.now.label.items }
-    ensures { IfOk result (λ cells. cells ≡ cells_of judged number row.now) }
+    ensures { IfOk result (λ cells. cells ≡ cells_of judged sure number row.now) }
 {
     let mut cells = Row::new(alloc);
     cells.push_number(number)?;
     push_label(&row.label, &mut cells)?;
     push_found(alloc, judged, &row.found, &mut cells)?;
+    push_outside(alloc, sure, row, &mut cells)?;
     Ok(cells)
+}
+
+/// Puts how sure the ranges of a job are at the end of a row, in a table that tells it.
+fn push_outside(alloc: Global, sure: bool, row: &JobRow, cells: &mut Row) -> Result<(), AllocError>
+    ensures { OnOk result (cells.new ≡ cells.old ++ outside_cells sure row.now) }
+{
+    if !sure {
+        return Ok(());
+    }
+    push_percent(alloc, outside_of_row(row), cells)
+}
+
+/// Puts a share in per cent at the end of a row, or nothing where it is not known.
+fn push_percent(alloc: Global, outside: Option<u64>, cells: &mut Row) -> Result<(), AllocError>
+    ensures { OnOk result (cells.new ≡ cells.old ++ outside_cell outside ∷ []) }
+{
+    match outside {
+        Some(billionths) => cells.push_word(&percent_words(alloc, billionths)?),
+        None => cells.push_nothing(),
+    }
+}
+
+/// A share in per cent.
+fn percent_words(alloc: Global, billionths: u64) -> Result<String, AllocError>
+    ensures { IfOk result (λ words. string_bytes words ≡ percent_of billionths ++ codes " %") }
+{
+    let percent = percent_text(alloc, billionths)?;
+    format!(in alloc; "{percent} %")
 }
 
 /// Puts the label of a job at the end of a row, or nothing where the job has none.

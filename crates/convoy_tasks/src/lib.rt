@@ -27,6 +27,7 @@ mod job_row;
 mod job_table;
 mod kept_jobs;
 mod kinds;
+mod links;
 mod running;
 mod task;
 pub mod task_laws;

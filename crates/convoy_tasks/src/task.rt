@@ -1,5 +1,6 @@
 use convoy_best_order::Wanted;
 use convoy_commands::{Options, Telling, TimeUnit};
+use convoy_fits_told::Skew;
 use convoy_ranges::RangesAsked;
 use convoy_sweep::{Setting, Sweep};
 use convoy_tables::Format;
@@ -61,8 +62,9 @@ pub enum Task {
         simulations: u64,
         unit: Option<TimeUnit>,
     },
-    /// Whether a trace of a real run is one of a run of the scenario that is wanted.
+    /// Whether a trace of a real run is one of a run of the scenario that is wanted, by clocks that are right within the skew.
     Fits {
+        skew: Skew,
         unit: Option<TimeUnit>,
     },
     /// A certificate of the greatest latency.
@@ -120,17 +122,25 @@ pub enum Task {
         asked: Asked,
         options: Options,
     },
-    /// The best placement and order of the groups of a plan for the targets that are wanted, as a table in that format, and
-    /// whether the reasons why no order is better there are told below it.
+    /// The best placement and order of the groups of a plan for the targets that are wanted, or so many of the best ones, as a
+    /// table in that format, and whether the reasons why no order is better there are told below it.
     Plan {
         format: Format,
         wanted: Wanted,
         with_reasons: bool,
+        first: Option<u16>,
         asked: Asked,
         options: Options,
     },
-    /// The scenario of that placement with its groups in that order, as a text.
+    /// The scenario of that placement, or of the last of so many, with its groups in the best order, as a text.
     Placing {
+        wanted: Wanted,
+        first: u16,
+        asked: Asked,
+        options: Options,
+    },
+    /// A certificate that this choice is the best one.
+    PlanCertificate {
         wanted: Wanted,
         asked: Asked,
         options: Options,
@@ -148,9 +158,29 @@ pub enum Task {
         wanted: Wanted,
         asked: Asked,
     },
+    /// Whether the certificate below a plan is a valid one of it, for these targets.
+    CheckPlan {
+        wanted: Wanted,
+        asked: Asked,
+    },
     /// The links that a table of round trips gives by these rules.
     Ranges {
         rules: RangesAsked,
+    },
+    /// The ranges of the links of a trace by these rules, whose numbers without a unit are of this one.
+    TraceRanges {
+        rules: RangesAsked,
+        unit: TimeUnit,
+    },
+    /// The links of such a trace, as a table in that format.
+    TraceTable {
+        format: Format,
+        unit: TimeUnit,
+    },
+    /// The links of a trace beside the ranges of the scenario that is wanted, as a table in that format.
+    Beside {
+        format: Format,
+        unit: Option<TimeUnit>,
     },
     /// The greatest latency with each value of one key of the text, or of two, as a table in that format; and whether a
     /// row is to speak of all times of issue from one value to the next.

@@ -1,5 +1,6 @@
 mod Rows
 mod LinkRows
+mod ShareRows
 pub mod KeyLemmas
 pub mod GivenTexts
 pub mod SaidTargets

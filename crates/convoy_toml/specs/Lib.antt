@@ -7,11 +7,15 @@ pub use Rattle.convoy_scenario.specs.Memory
 pub use Rattle.convoy_scenario.specs.Numbering
 pub use Rattle.convoy_scenario.specs.Scenario
 pub use Rattle.convoy_scenario.specs.WellFormed
--- what a reader has to believe: what stands in a table, which links it writes, which ways have none, what its times are in ticks, what its deadlines are, which text gives which scenario, and what is proved of texts
+pub use Rattle.convoy_around.specs.Around as AroundTargets
+-- what a reader has to believe: what a share is, what stands in a table, which shares and which links it writes, which ways have none, what its times are in ticks, what its deadlines are, which scenario is asked about, which text gives which scenario, and what is proved of texts
+pub mod Shares
 pub mod Shape
+pub mod Outside
 pub mod Links
 pub mod Ways
 pub mod Times
 pub mod Deadlines
+pub mod Around
 pub mod Reading
 pub mod TextLaws

@@ -14,7 +14,9 @@ use Rattle.convoy_draft.specs.declared.duration.TimeUnit.{TimeUnit}
 use Rattle.convoy_scenario.specs.Scenario.{Scenario}
 use Rattle.convoy_scenario.specs.Numbering.{scenario_of_draft}
 use Rattle.convoy_lines.specs.Results.{◌>>=◌}
+use Rattle.convoy_toml.specs.Around.{asked_around}
 use Rattle.convoy_toml.specs.Deadlines.{deadlines_of_written}
+use Rattle.convoy_toml.specs.Outside.{LinkShare, shares_of_table}
 use Rattle.convoy_toml.specs.Shape.{Written, WrittenScenario, unit_of_table, written_of_table}
 use Rattle.convoy_toml.specs.Times.{draft_of_written}
 use Rattle.convoy_toml.specs.Ways.{has_ranges}
@@ -35,11 +37,11 @@ need_ranges has_least draft = if has_ranges has_least draft then Ok tt else Err 
 
 -- ask nothing beside the text: it has to name its target
 abbrev pub as_written : Asked
-as_written = record { target = Required; at_most = None }
+as_written = record { target = Required; at_most = None; around = None }
 
 -- the same, but it may leave out its target
 abbrev pub of_any_target : Asked
-of_any_target = record { target = Optional; at_most = None }
+of_any_target = record { target = Optional; at_most = None; around = None }
 
 -- the scenario of what is written: its times in ticks first, then the checks of the scenario, and then whether ranges are written
 abbrev pub scenario_of_written : WrittenScenario → Result Scenario ScenarioFault
@@ -49,12 +51,13 @@ scenario_of_written written = do
   _ ← need_ranges (is_some written.least) draft
   Ok scenario
 
--- what is given where this is written: the scenario first, and then the deadlines; schedule and order stay as they are written
+-- what is given where this is written: the scenario first, and then the deadlines, and where all is asked around the target the scenario around it; schedule and order stay as they are written
 abbrev pub input_of_written : Asked → Written → Result InputView ScenarioFault
 input_of_written asked written = do
   scenario ← scenario_of_written written.scenario
   _ ← deadlines_of_written asked.at_most written.scenario
-  Ok (record { scenario = scenario; schedule = written.schedule; order = written.order })
+  about ← asked_around asked.around scenario
+  Ok (record { scenario = about; schedule = written.schedule; order = written.order })
 
 -- what a table gives, where that is asked: its shape first, then what is said of that
 abbrev pub input_of_table : Asked → Members → Result InputView ScenarioFault
@@ -88,6 +91,13 @@ deadlines_of_text asked text = of_reading (table_of_text text >>= of_table) wher
 
   of_reading : Result (List (Option ℕ)) ScenarioFault → List (Option ℕ)
   of_reading (Ok deadlines) = deadlines
+  of_reading (Err fault) = []
+
+-- the shares of packets outside their ranges that the links of a text write; none where it is no table
+abbrev pub shares_of_text : List ℕ → List LinkShare
+shares_of_text text = of_reading (table_of_text text) where
+  of_reading : Result Members ScenarioFault → List LinkShare
+  of_reading (Ok table) = shares_of_table table
   of_reading (Err fault) = []
 
 -- what was read, with schedule and order as lists

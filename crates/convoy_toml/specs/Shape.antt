@@ -23,6 +23,7 @@ use Rattle.convoy_toml.specs.declared.target.TargetKey.{TargetKey}
 use Rattle.convoy_toml.specs.declared.target.TargetKey.TheVariants.{Named, Required, Optional}
 use Rattle.convoy_toml.specs.declared.written.WrittenTime.{WrittenTime}
 use Rattle.convoy_toml.specs.declared.written.WrittenTime.TheVariants.{Count, Lasting}
+use Rattle.convoy_toml.specs.Shares.{as_share, outside_word}
 
 -- a message as it is written: its name, the group that sends it (none for a client), the groups that it goes to, the first time at which it may be issued, and the last where that is written, and its deadline where it has one
 pub record WrittenMessage : Type 0 where
@@ -181,13 +182,34 @@ ends_of_table table = do
   both ← both_of_table (is_some senders) table
   Ok (record { senders = senders; to = to; both = both })
 
+-- the share of the packets by the links of a table that may be outside their range, in billionths, where that is written; what is no share is a fault of the table
+abbrev pub share_of_table : Members → Result (Option ℕ) ScenarioFault
+share_of_table table = if_there (get_member outside_word table) where
+  if_there : Option Data → Result (Option ℕ) ScenarioFault
+  if_there None = Ok None
+  if_there (Some d) = ok_or (option_map Some (as_share d)) (Shape Link)
+
+-- the word is a key of a table of links
+abbrev pub is_link_word : List ℕ → Bool
+is_link_word word = list_any (λ key. bytes_eq (key_word key) word) (From ∷ To ∷ Both ∷ Least ∷ Most ∷ []) || bytes_eq outside_word word
+
+-- each key of the table is one of these
+abbrev pub has_link_words : Members → Bool
+has_link_words no_members = true
+has_link_words (member word d rest) = is_link_word word && has_link_words rest
+
+-- an unknown key of a table of links is a fault
+abbrev pub need_link_words : Members → Result (Unit {0}) ScenarioFault
+need_link_words table = if has_link_words table then Ok tt else Err (Shape Unknown)
+
 -- a table of links as it is written
 unfoldable pub link_of_table : AnyTime → Members → Result WrittenLink ScenarioFault
 link_of_table time table = do
   ends ← ends_of_table table
   least ← need Least (as_when time) table
   most ← need Most (as_when time) table
-  _ ← need_only (From ∷ To ∷ Both ∷ Least ∷ Most ∷ []) table
+  _ ← share_of_table table
+  _ ← need_link_words table
   Ok (record { ends = ends; least = least; most = most })
 
 -- the tables of links, unless one is at fault

@@ -1,6 +1,7 @@
 ghost use Rattle.std.specs.Prelude.{◌≡◌};
 ghost use Rattle.convoy_toml.specs.Reading.{as_written, of_any_target};
 
+use super::around::Around;
 use super::target::TargetKey;
 use super::written::WrittenTime;
 
@@ -12,16 +13,20 @@ pub struct Asked {
     /// The deadline of each message to which the text gives none, where there is such: what is no duration counts
     /// ticks.
     pub at_most: Option<WrittenTime>,
+    /// How far around the target's issue all other messages are issued, where nothing of that is known: then what the
+    /// text says of `at` and `until` is only checked.
+    pub around: Option<Around>,
 }
 
 impl Asked {
-    /// Nothing: the text has to name its target, and messages have the deadlines that it gives them.
+    /// Nothing: the text has to name its target, and messages have the deadlines and the issue times that it gives them.
     pub fn as_written() -> Asked
         ensures { result ≡ as_written }
     {
         Asked {
             target: TargetKey::Required,
             at_most: None,
+            around: None,
         }
     }
 
@@ -32,6 +37,7 @@ impl Asked {
         Asked {
             target: TargetKey::Optional,
             at_most: None,
+            around: None,
         }
     }
 }

@@ -27,7 +27,7 @@ fn whole_ticks(tick: Option<u64>, duration: Duration) -> Option<u32>
 }
 
 /// The ticks of a deadline that counts 1 tick or more.
-fn counted_ticks(ticks: i64) -> Option<u32>
+pub(crate) fn counted_ticks(ticks: i64) -> Option<u32>
     ensures { result ≡ counted_ticks ticks }
 {
     if ticks < 1 {

@@ -1,3 +1,4 @@
+use super::outside::LinkShare;
 use super::plain::PlainNumber;
 use convoy_scenario::{Scenario, TimeUnit};
 
@@ -12,6 +13,9 @@ pub struct Input {
     /// The deadlines of its messages, by their numbers, in ticks: the most that a latency may be; none for a message
     /// that has none. Deadlines are no part of the scenario.
     pub deadlines: Vec<Option<u32>>,
+    /// The shares of packets outside their ranges that its tables of links write, in their order. They are no part of
+    /// the scenario.
+    pub shares: Vec<LinkShare>,
     /// The unit in which the text writes D, where it writes that as a duration.
     pub unit: Option<TimeUnit>,
     /// The first of its times that is a plain number beside durations, for who wants to say what that counts: no

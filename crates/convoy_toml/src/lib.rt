@@ -2,6 +2,7 @@
 //! whose links several in one table, and of the schedule and the order of its ties where they are given.
 #![tactic(auto)]
 
+pub use around::{Around, asked_around, span_asked, span_of};
 pub use asked::Asked;
 pub use bundle::Bundle;
 pub use copying::{copy_ends, copy_name, copy_names};
@@ -9,12 +10,14 @@ pub use deadlines::{GREATEST_DEADLINE, deadlines_of_written};
 pub use divisor::common_divisor;
 pub use input::Input;
 pub use links::{MOST_WRITTEN_LINKS, links_of_bundle};
+pub use outside::LinkShare;
 pub use placed::{Placed, ScenarioTable};
 pub use plain::PlainNumber;
 pub use read::{read_table, read_toml, read_toml_asked, scenario_of_written};
 pub use shape::{
     scenario_of_table, setting_of_table, time_of_table, unit_of_table, written_of_table,
 };
+pub use share::WHOLE_SHARE;
 pub use target::TargetKey;
 pub use times::{bundles_of, draft_of_written, tick_of};
 pub use ways::{Way, ways_without_link};
@@ -23,6 +26,7 @@ pub use written::{
     WrittenTime,
 };
 
+mod around;
 mod asked;
 mod bundle;
 mod copying;
@@ -30,10 +34,12 @@ mod deadlines;
 mod divisor;
 mod input;
 mod links;
+mod outside;
 mod placed;
 mod plain;
 mod read;
 mod shape;
+mod share;
 mod target;
 pub mod text_laws;
 mod times;

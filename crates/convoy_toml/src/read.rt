@@ -3,13 +3,15 @@ ghost use Rattle.std.specs.Result.{result_map_both};
 ghost use Rattle.toml.specs.View.{table_view};
 ghost use Rattle.convoy_draft.specs.declared.fault.ScenarioFault.TheVariants.{Memory};
 ghost use Rattle.convoy_scenario.specs.Memory.{IsUnlessMemory};
-ghost use Rattle.convoy_toml.specs.Reading.{deadlines_of_text, input_of_written, scenario_of_written, table_of_text, input_of_text, input_of_text_by, input_read, scenario_of_text, scenario_of_text_by, scenario_read, unit_written};
+ghost use Rattle.convoy_toml.specs.Reading.{deadlines_of_text, input_of_written, scenario_of_written, table_of_text, input_of_text, input_of_text_by, input_read, scenario_of_text, scenario_of_text_by, scenario_read, shares_of_text, unit_written};
 ghost use Rattle.convoy_toml.specs.Deadlines.{deadlines_of_written};
 ghost use Rattle.convoy_toml.specs.Reading.{as_written};
 
+use super::around::asked_around;
 use super::asked::Asked;
 use super::deadlines::deadlines_of_written;
 use super::input::Input;
+use super::outside::{LinkShare, shares_of_table};
 use super::placed::Placed;
 use super::plain::plain_number;
 use super::shape::{unit_of_table, written_of_table};
@@ -33,6 +35,7 @@ pub fn read_toml(alloc: Global, text: &[u8]) -> Result<Input, ScenarioFault>
     ensures read { IfOk result (λ input. scenario_of_text text.now ≡ Ok input.scenario) }
     ensures unit { IfOk result (λ input. input.unit ≡ unit_written text.now) }
     ensures deadlines { IfOk result (λ input. input.deadlines.items ≡ deadlines_of_text as_written text.now) }
+    ensures shares { IfOk result (λ input. input.shares.items ≡ shares_of_text text.now) }
     ensures given { IfOk result (λ input. input_of_text text.now
         ≡ Ok (record { scenario = input.scenario; schedule = option_map (λ delays. delays.items) input.schedule; order = option_map (λ ranks. ranks.items) input.order })) }
 {
@@ -45,12 +48,14 @@ pub fn read_toml(alloc: Global, text: &[u8]) -> Result<Input, ScenarioFault>
 /// Where the target may be left out and the table `target` is absent, the scenario asks of its first message at the
 /// first group that this goes to; a text that has it is read as by [`read_toml`] (`text_laws::targets_may_be_said`).
 /// A target that is named takes the place of the text's. A deadline that is asked is that of each message that has none.
+/// Where all is asked around the target, the scenario is the one around it ([`asked_around`]).
 pub fn read_toml_asked(alloc: Global, text: &[u8], asked: &Asked) -> Result<Input, ScenarioFault>
     ensures scenario { IsUnlessMemory Memory (scenario_of_text_by asked.now text.now) (scenario_read result) }
     ensures input { IsUnlessMemory Memory (input_of_text_by asked.now text.now) (input_read result) }
     ensures read { IfOk result (λ input. scenario_of_text_by asked.now text.now ≡ Ok input.scenario) }
     ensures unit { IfOk result (λ input. input.unit ≡ unit_written text.now) }
     ensures deadlines { IfOk result (λ input. input.deadlines.items ≡ deadlines_of_text asked.now text.now) }
+    ensures shares { IfOk result (λ input. input.shares.items ≡ shares_of_text text.now) }
     ensures given { IfOk result (λ input. input_of_text_by asked.now text.now
         ≡ Ok (record { scenario = input.scenario; schedule = option_map (λ delays. delays.items) input.schedule; order = option_map (λ ranks. ranks.items) input.order })) }
 {
@@ -65,24 +70,29 @@ fn read_toml_placed(alloc: Global, text: &[u8], asked: &Asked) -> Result<Input, 
     ensures read { IfOk result (λ input. scenario_of_text_by asked.now text.now ≡ Ok input.scenario) }
     ensures unit { IfOk result (λ input. input.unit ≡ unit_written text.now) }
     ensures deadlines { IfOk result (λ input. input.deadlines.items ≡ deadlines_of_text asked.now text.now) }
+    ensures shares { IfOk result (λ input. input.shares.items ≡ shares_of_text text.now) }
     ensures given { IfOk result (λ input. input_of_text_by asked.now text.now
         ≡ Ok (record { scenario = input.scenario; schedule = option_map (λ delays. delays.items) input.schedule; order = option_map (λ ranks. ranks.items) input.order })) }
 {
     let table = read_table(alloc, text)?;
     let unit = unit_of_table(&table);
+    let shares = shares_of_table(alloc, &table)?;
     let written = written_of_table(alloc, &table, &asked.target)?;
-    input_of_written(alloc, asked, unit, written)
+    input_of_written(alloc, asked, unit, shares, written)
 }
 
-/// What is given where this is written (docs/FORMATS.md, "How faults are found"), with the unit in which D is.
+/// What is given where this is written (docs/FORMATS.md, "How faults are found"), with the unit in which D is, and the
+/// shares of packets.
 fn input_of_written(
     alloc: Global,
     asked: &Asked,
     unit: Option<TimeUnit>,
+    shares: Vec<LinkShare>,
     written: WrittenInput,
 ) -> Result<Input, Placed>
     ensures input { IsUnlessMemory Memory (input_of_written asked.now written) (input_read result) }
     ensures unit { IfOk result (λ input. input.unit ≡ unit) }
+    ensures shares { IfOk result (λ input. input.shares ≡ shares) }
     ensures deadlines { IfOk result (λ input.
         deadlines_of_written asked.now.at_most written.scenario ≡ Ok input.deadlines.items) }
     ensures given { IfOk result (λ input. input_of_written asked.now written
@@ -95,11 +105,13 @@ fn input_of_written(
     } = written;
     let scenario = scenario_of_written(alloc, &written)?;
     let deadlines = deadlines_of_written(alloc, asked.at_most, &written)?;
+    let scenario = asked_around(alloc, scenario, asked.around)?;
     Ok(Input {
         scenario,
         schedule,
         order,
         deadlines,
+        shares,
         unit,
         plain: plain_number(&written),
     })

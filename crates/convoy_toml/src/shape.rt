@@ -6,9 +6,11 @@ ghost use Rattle.toml.specs.Data.{as_integer, as_str, as_array, as_table, get_me
 ghost use Rattle.toml.specs.View.{view, array_view, table_view};
 ghost use Rattle.convoy_draft.specs.Keys.{key_word};
 ghost use Rattle.convoy_scenario.specs.Memory.{IsUnlessMemory};
-ghost use Rattle.convoy_toml.specs.Shape.{all_of, as_duration, as_when, as_tick, as_least, needs_delay, delay_of_table, need, need_all, wish, wish_all, names_in, as_names, as_both, both_of_table, ends_of_table, has_only, need_only, time_of_table, message_of_table, messages_of, link_of_table, links_of, links_of_table, written_target, target_of_table, scenario_of_table, setting_of_table, written_of_table, listed, listed_if_there, tables_listed, unit_in, unit_of_table};
+ghost use Rattle.convoy_toml.specs.Shares.{outside_word};
+ghost use Rattle.convoy_toml.specs.Shape.{all_of, as_duration, as_when, as_tick, as_least, needs_delay, delay_of_table, need, need_all, wish, wish_all, names_in, as_names, as_both, both_of_table, ends_of_table, has_link_words, has_only, is_link_word, need_link_words, need_only, share_of_table, time_of_table, message_of_table, messages_of, link_of_table, links_of, links_of_table, written_target, target_of_table, scenario_of_table, setting_of_table, written_of_table, listed, listed_if_there, tables_listed, unit_in, unit_of_table};
 
 use super::placed::{Placed, ScenarioTable, in_table};
+use super::share::{OUTSIDE, share_told};
 use super::target::{TargetKey, first_target};
 use super::written::{
     LinkEnds, WrittenInput, WrittenLink, WrittenMulticast, WrittenScenario, WrittenTarget,
@@ -104,7 +106,11 @@ fn tables_of<'a>(alloc: Global, items: &'a Array, key: Key) -> Result<Vec<&'a Ta
     Ok(tables)
 }
 
-fn tables<'a>(alloc: Global, table: &'a Table, key: Key) -> Result<Vec<&'a Table>, ScenarioFault>
+pub(crate) fn tables<'a>(
+    alloc: Global,
+    table: &'a Table,
+    key: Key,
+) -> Result<Vec<&'a Table>, ScenarioFault>
     ensures { IsUnlessMemory ScenarioFault.Memory
         (need_all key as_table (table_view table.now)) (tables_listed result) }
 {
@@ -416,13 +422,57 @@ fn both_of_table(table: &Table, groups_send: bool) -> Result<bool, ScenarioFault
 }
 
 /// Where the links of a table lead.
-fn ends_of_table(alloc: Global, table: &Table) -> Result<LinkEnds, ScenarioFault>
+pub(crate) fn ends_of_table(alloc: Global, table: &Table) -> Result<LinkEnds, ScenarioFault>
     ensures { IsUnlessMemory ScenarioFault.Memory (ends_of_table (table_view table.now)) result }
 {
     let senders = senders(alloc, table)?;
     let to = receivers(alloc, table)?;
     let both = both_of_table(table, senders.is_some())?;
     Ok(LinkEnds { senders, to, both })
+}
+
+/// The value at the key of a table of links that tells a share.
+fn outside_at(table: &Table) -> Option<&Value>
+    ensures { option_map (λ v. view v.now) result ≡ get_member outside_word (table_view table.now) }
+{
+    table.get(OUTSIDE)
+}
+
+/// The share of the packets by the links of a table that may be outside their range, in billionths, where that is
+/// written; what is no share is a fault of the table.
+pub(crate) fn share_of_table(table: &Table) -> Result<Option<u64>, ScenarioFault>
+    ensures { result ≡ share_of_table (table_view table.now) }
+{
+    let Some(value) = outside_at(table) else {
+        return Ok(None);
+    };
+    let share = share_told(value).ok_or(ScenarioFault::Shape(Key::Link))?;
+    Ok(Some(share))
+}
+
+/// Whether a word is a key of a table of links.
+fn is_link_word(word: &str) -> bool
+    ensures { result ≡ is_link_word word.now }
+{
+    let keys = [Key::From, Key::To, Key::Both, Key::Least, Key::Most];
+    is_one_of(word, &keys) || OUTSIDE == word
+}
+
+/// Whether each key of the table is one of these.
+fn has_link_words(table: &Table) -> bool
+    ensures { result ≡ has_link_words (table_view table.now) }
+{
+    table.keys().all(|word| is_link_word(word.as_str()))
+}
+
+fn need_link_words(table: &Table) -> Result<(), ScenarioFault>
+    ensures { result ≡ need_link_words (table_view table.now) }
+{
+    if has_link_words(table) {
+        Ok(())
+    } else {
+        Err(ScenarioFault::Shape(Key::Unknown))
+    }
 }
 
 #[tactic(auto, unfolding(crate::specs::Shape::link_of_table))]
@@ -432,10 +482,8 @@ fn link_of_table(alloc: Global, table: &Table, time: Time) -> Result<WrittenLink
     let ends = ends_of_table(alloc, table)?;
     let least = when(table, Key::Least, time)?;
     let most = when(table, Key::Most, time)?;
-    need_only(
-        table,
-        &[Key::From, Key::To, Key::Both, Key::Least, Key::Most],
-    )?;
+    share_of_table(table)?;
+    need_link_words(table)?;
     Ok(WrittenLink { ends, least, most })
 }
 

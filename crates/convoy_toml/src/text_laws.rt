@@ -1,8 +1,9 @@
 //! The laws of scenario texts. Each is the one clause of a function that does nothing; a caller that needs a
 //! law calls its function.
 
-ghost use Rattle.convoy_toml.specs.TextLaws.{CommonDivisorsAreGreatest, TargetsMayBeSaid, TextsGiveScenarios};
+ghost use Rattle.convoy_toml.specs.TextLaws.{CommonDivisorsAreGreatest, TargetsMayBeSaid, TextsGiveScenarios, TextsHaveSpans};
 
+use convoy_around::around_laws::around_is_scenario;
 use convoy_scenario::scenario_laws::drafts_give_scenarios;
 
 /// What a text is read as is a well-formed scenario, whatever is asked beside it.
@@ -10,7 +11,13 @@ pub fn texts_give_scenarios()
     ensures { TextsGiveScenarios }
 {
     drafts_give_scenarios();
+    around_is_scenario();
 }
+
+/// Where all is asked around the target, the scenario that is read has a span.
+pub fn texts_have_spans()
+    ensures { TextsHaveSpans }
+{}
 
 /// A text in which the target is written gives the same, whether the target may be left out or not.
 pub fn targets_may_be_said()

@@ -15,14 +15,14 @@ use Rattle.convoy_traces.specs.Traces.{rows_below, rows_from, table_in, with_lin
 use Rattle.convoy_traces.proofs.Chains.{goes_on, stops}
 
 -- the next line stands before those that are left
-next_line : (ended : List (List ℕ)) (rest : List ℕ) (number : ℕ) (line : List ℕ)
+pub next_line : (ended : List (List ℕ)) (rest : List ℕ) (number : ℕ) (line : List ℕ)
     → line_at (record { ended = ended; rest = rest; number = number }) ≡ Some line
     → (ended ≡ line ∷ (past_line (record { ended = ended; rest = rest; number = number })).ended)
     × ((past_line (record { ended = ended; rest = rest; number = number })).number ≡ number + 1)
 next_line [] rest number line is = absurd cc
 next_line (first ∷ lines) rest number line is = let same : first ≡ line = cc in (ap (λ (l : List ℕ). l ∷ lines) same, refl)
 
-no_line : (ended : List (List ℕ)) (rest : List ℕ) (number : ℕ) → line_at (record { ended = ended; rest = rest; number = number }) ≡ None → ended ≡ []
+pub no_line : (ended : List (List ℕ)) (rest : List ℕ) (number : ℕ) → line_at (record { ended = ended; rest = rest; number = number }) ≡ None → ended ≡ []
 no_line [] rest number is = refl
 no_line (first ∷ lines) rest number is = absurd cc
 

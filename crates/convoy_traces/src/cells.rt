@@ -10,7 +10,7 @@ use std::alloc::{AllocError, Global};
 
 /// The cells of a line, which is read as a text of CSV of its own. Fails where memory runs out, and else never: the bytes
 /// of a slice are always there to be read.
-pub(crate) fn cells_of(alloc: Global, line: &[u8]) -> Result<ByteRecord, AllocError>
+pub fn cells_of(alloc: Global, line: &[u8]) -> Result<ByteRecord, AllocError>
     ensures { IfOk result (λ cells. fields_of cells ≡ cells_of line.now) }
 {
     let mut reader = ReaderBuilder::new()
@@ -37,7 +37,7 @@ pub(crate) fn cell_at(cells: &ByteRecord, place: usize) -> &[u8]
 }
 
 /// Whether nothing stands in any of the cells.
-pub(crate) fn is_blank(cells: &ByteRecord) -> bool
+pub fn is_blank(cells: &ByteRecord) -> bool
     ensures { result ≡ is_blank (fields_of cells.now) }
 {
     for place in 0..cells.len() {

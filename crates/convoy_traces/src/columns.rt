@@ -10,20 +10,20 @@ use csv::ByteRecord;
 
 /// Where each column stands; none where the table has no such column.
 #[derive(Clone, Copy)]
-pub(crate) struct Columns {
+pub struct Columns {
     /// How many cells each line has.
-    pub(crate) count: usize,
-    pub(crate) event: Option<usize>,
-    pub(crate) message: Option<usize>,
-    pub(crate) group: Option<usize>,
-    pub(crate) from: Option<usize>,
-    pub(crate) time: Option<usize>,
-    pub(crate) stamp: Option<usize>,
+    pub count: usize,
+    pub event: Option<usize>,
+    pub message: Option<usize>,
+    pub group: Option<usize>,
+    pub from: Option<usize>,
+    pub time: Option<usize>,
+    pub stamp: Option<usize>,
 }
 
 /// In which form the lines of a trace are.
 #[derive(Clone, Copy)]
-pub(crate) enum Head {
+pub enum Head {
     /// Each is an object, the first one, too.
     Objects,
     /// The first names the columns of those below it.
@@ -66,7 +66,7 @@ fn has_all(columns: Columns) -> bool
 }
 
 /// What the first line says of those below it.
-pub(crate) fn head_of(line: usize, cells: &ByteRecord) -> Result<Head, TraceFault>
+pub fn head_of(line: usize, cells: &ByteRecord) -> Result<Head, TraceFault>
     ensures { result ≡ head_of line (fields_of cells.now) }
 {
     if begins_object(cells) {

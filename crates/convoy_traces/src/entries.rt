@@ -1,7 +1,8 @@
 //! What a row tells of a run of a scenario.
 
-ghost use Rattle.std.specs.Prelude.{◌≡◌, ◌==◌, ◌<◌, length, position, IfOk, IfSome};
+ghost use Rattle.std.specs.Prelude.{◌≡◌, ◌==◌, ◌<◌, ◌≤◌, length, position, IfOk, IfSome};
 ghost use Rattle.std.specs.Str.{bytes_eq};
+ghost use Rattle.convoy_draft.specs.declared.duration.TheConstants.{LONGEST_DURATION};
 ghost use Rattle.convoy_scenario.specs.Memory.{IsUnlessMemory};
 ghost use Rattle.convoy_traces.specs.Entries.{entry_of, entry_with, event_of, from_of, group_of, stamp_in, stamp_of, time_of, time_with};
 ghost use Rattle.convoy_traces.specs.Traces.{in_line};
@@ -42,7 +43,7 @@ fn from_of(scenario: &Scenario, message: usize, cell: &[u8]) -> Result<usize, Ca
 }
 
 /// Whether the cell is that word.
-fn is_word(cell: &[u8], word: &str) -> bool
+pub fn is_word(cell: &[u8], word: &str) -> bool
     ensures { result ≡ bytes_eq cell.now word.now }
 {
     cell == word.as_bytes()
@@ -71,7 +72,8 @@ fn event_of(scenario: &Scenario, message: usize, row: &Row) -> Result<Event, Cau
 
 /// The duration that a cell tells before the word for a unit. Fails where memory runs out, and else never.
 fn time_with(alloc: Global, unit: &str, cell: &[u8]) -> Result<Option<u64>, AllocError>
-    ensures { IfOk result (λ time. time ≡ time_with unit.now cell.now) }
+    ensures value { IfOk result (λ time. time ≡ time_with unit.now cell.now) }
+    ensures bounded { IfOk result (λ time. IfSome time (λ t. t ≤ LONGEST_DURATION)) }
 {
     let mut text = Vec::new(alloc);
     text.extend_from_slice(cell)?;
@@ -84,9 +86,14 @@ fn time_with(alloc: Global, unit: &str, cell: &[u8]) -> Result<Option<u64>, Allo
 }
 
 /// The time that a cell tells, in nanoseconds: a duration, or a number of the unit. Without a unit it is a number of
-/// ticks, each told as a second.
-fn time_of(alloc: Global, unit: Option<TimeUnit>, cell: &[u8]) -> Result<Option<u64>, AllocError>
-    ensures { IfOk result (λ time. time ≡ time_of unit cell.now) }
+/// ticks, each told as a second. Fails where memory runs out, and else never.
+pub fn time_of(
+    alloc: Global,
+    unit: Option<TimeUnit>,
+    cell: &[u8],
+) -> Result<Option<u64>, AllocError>
+    ensures value { IfOk result (λ time. time ≡ time_of unit cell.now) }
+    ensures bounded { IfOk result (λ time. IfSome time (λ t. t ≤ LONGEST_DURATION)) }
 {
     let Some(unit) = unit else {
         return time_with(alloc, "s", cell);

@@ -49,9 +49,21 @@ pub enum Cause {
     /// The time is later than any in a run of a scenario.
     #[error("the time is more than 1000000 fine ticks after the start: count from a later start, or drop digits")]
     Late,
+    /// Where no scenario says which there are: the message has no name, or the group one that no group may have.
+    #[error("a message has a name, and a group one that groups may have, as eu-west_1, 16 characters at most")]
+    Name,
+    /// A packet came before it was sent.
+    #[error("the packet came before it was sent: clocks that differ have to be set right first")]
+    Early,
+    /// The packets are of more links than a trace may have: the first line of one that is too many.
+    #[error("there are packets of more than 2080 links")]
+    TooMany,
+    /// The greatest time of a packet, with its margin, has more ticks than a scenario takes.
+    #[error("the packet took more than 65535 ticks: ask for a longer tick")]
+    Wide,
 }
 
-/// Why a text is no trace of a scenario.
+/// Why a text is no trace of a scenario, or one that gives no ranges.
 #[derive(Clone, Copy, Debug, PartialEq, Eq, Error)]
 pub enum TraceFault {
     /// There is no line with something in it.
@@ -63,6 +75,9 @@ pub enum TraceFault {
     /// The times are told in finer parts than so many to a tick, which are as many as the greatest delay allows.
     #[error("the times are finer than 1/{0} of a tick: drop digits until they are whole numbers of such a part")]
     TooFine(u16),
+    /// The trace tells of no packet both when it was sent and when it came.
+    #[error("the trace tells of no packet both when it was sent and when it came")]
+    NoPacket,
     /// Memory ran out, which says nothing of the trace.
     #[error("out of memory")]
     Memory,

@@ -19,7 +19,7 @@ pub(crate) fn message_numbered(scenario: &Scenario, word: &[u8]) -> Option<usize
 }
 
 /// The number of the group of that name.
-pub(crate) fn group_numbered(scenario: &Scenario, word: &[u8]) -> Option<usize>
+pub fn group_numbered(scenario: &Scenario, word: &[u8]) -> Option<usize>
     ensures { result ≡ numbered 0 scenario.now.groups word.now }
 {
     for group in 0..scenario.group_count() {

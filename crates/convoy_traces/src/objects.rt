@@ -24,7 +24,7 @@ fn text_of<'a>(object: &Value<'a>, name: &str) -> &'a [u8]
 }
 
 /// The row of an object.
-pub(crate) fn row_of_object<'a>(object: &Value<'a>) -> Row<'a>
+pub fn row_of_object<'a>(object: &Value<'a>) -> Row<'a>
     ensures { result ≡ row_of_object (value_view object.now) }
 {
     Row {

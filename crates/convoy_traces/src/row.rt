@@ -2,13 +2,13 @@ use std::marker::Model;
 
 /// A row: a text for each column, with nothing in it where the line has none.
 #[derive(Drop)]
-pub(crate) struct Row<'a> {
-    pub(crate) event: &'a [u8],
-    pub(crate) message: &'a [u8],
-    pub(crate) group: &'a [u8],
-    pub(crate) from: &'a [u8],
-    pub(crate) time: &'a [u8],
-    pub(crate) stamp: &'a [u8],
+pub struct Row<'a> {
+    pub event: &'a [u8],
+    pub message: &'a [u8],
+    pub group: &'a [u8],
+    pub from: &'a [u8],
+    pub time: &'a [u8],
+    pub stamp: &'a [u8],
 }
 
 impl<'a> Model for Row<'a> {
@@ -35,7 +35,7 @@ use super::columns::Columns;
 use csv::ByteRecord;
 
 /// The row of a line of cells.
-pub(crate) fn row_of_cells<'a>(columns: &Columns, cells: &'a ByteRecord) -> Row<'a>
+pub fn row_of_cells<'a>(columns: &Columns, cells: &'a ByteRecord) -> Row<'a>
     ensures { result ≡ row_of_cells columns.now (fields_of cells.now) }
 {
     Row {

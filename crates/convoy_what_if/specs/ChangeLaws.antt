@@ -8,6 +8,7 @@ use Rattle.convoy_toml.specs.Reading.{scenario_of_text_by}
 use Rattle.convoy_branch.specs.Options.{Settings}
 use Rattle.convoy_commands.specs.Measured.{measure_of_text}
 use Rattle.convoy_commands.specs.declared.done.Done.{Done}
+use Rattle.convoy_commands.specs.Outsides.{outside_of_text, outside_text}
 use Rattle.convoy_commands.specs.ReplyLines.{greatest_line}
 use Rattle.convoy_commands.specs.Searches.{IsGreatestTold}
 use Rattle.convoy_commands.specs.Verdicts.{target_deadline, verdict_text}
@@ -32,7 +33,7 @@ RowsAreInOrder =
     (settings : Settings) (scenario : Scenario) (changes : List Change) (rows : List Tried) →
     AreTried settings scenario changes rows → AreInOrder settings scenario changes rows
 
--- Of a text of the scenario that a row's change makes, `latency` answers the row's number where it tells a greatest latency, by whatever settings and whoever asked, and below it how that keeps the deadline of the target, if it has one.
+-- Of a text of the scenario that a row's change makes, `latency` answers the row's number where it tells a greatest latency, by whatever settings and whoever asked, below it how that keeps the deadline of the target, if it has one, and how sure the ranges are, if its links tell that.
 abbrev pub RowsAreLatencies : Type 0
 RowsAreLatencies =
     (settings other : Settings) (asked : Asked) (scenario another : Scenario) (row : Tried) (latency nodes : ℕ) (cause : Cause) (text out : List ℕ) (end : Done) →
@@ -40,7 +41,8 @@ RowsAreLatencies =
     scenario_of_text_by asked text ≡ Ok another → IsGreatestTold asked other text end out →
     out
     ≡ greatest_line (measure_of_text other.unit text another) latency
-    ++ verdict_text (measure_of_text other.unit text another) (target_deadline asked text another) latency latency
+    ++ (verdict_text (measure_of_text other.unit text another) (target_deadline asked text another) latency latency
+    ++ outside_text (outside_of_text text another))
 
 -- The two numbers of a row, `least` and `most`, enclose the greatest latency of the scenario that its change makes, whether or not the search ended.
 abbrev pub RowsEnclose : Type 0

@@ -4,6 +4,6 @@ use Rattle.convoy_best_order.specs.declared.target.Target.{Target}
 use Rattle.convoy_best_plan.proofs.choice_laws.choice_keeps.Goals as goal
 
 pub returns : goal.returns
-returns c = λ settings wanted plan planned target is of_target.
+returns c = λ settings wanted plan told planned target is of_target.
     c.best_order_keeps.ensures settings planned.scenario planned.targets.items planned.best target is.choice.best
     (subst (λ (ts : List Target). Contains ts target) (sym is.choice.targets) of_target)

@@ -19,8 +19,8 @@ search_below-requires-clause-left g c κs within =
 pub settled_if-requires-clause-passed : goal.settled_if-requires-clause-passed
 settled_if-requires-clause-passed g c κs within =
     let none : c.in_ok-sites.sites.items ≡ replicate c.group_count-groups.result None = c.in_ok-sites.ensures.items_if_clones_equal (only_none _ (λ x same. same)) in
-    λ placement is.
-    c.in_ok-standing.ensures.passed placement is
+    λ placement is new.
+    c.in_ok-standing.ensures.passed placement is new
     (subst (Completes placement) (sym (c.deref.ensures.value ∙ none)) (completes_none placement c.group_count-groups.result))
 
 pub returns : goal.returns

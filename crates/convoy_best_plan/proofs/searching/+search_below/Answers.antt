@@ -9,21 +9,21 @@ pub returns-then-cut : goal.returns-then-cut
 returns-then-cut g t c = record {
   standing = c.requires.standing;
   fallen = fallen_self c.args.standing.chosen;
-  passed = c.is_cut-cut.ensures c.args.options.now c.args.wanted c.requires.standing c.if-cut.true;
+  passed = c.is_cut-cut.ensures c.args.options.now c.args.wanted c.args.told.now c.requires.standing c.if-cut.true;
 }
 
 pub loop-site-init : goal.loop-site-init
 loop-site-init g t c = record {
   standing = c.requires.standing;
   fallen = fallen_self c.args.standing.chosen;
-  passed = none_yet c.args.wanted c.args.plan.now c.args.standing.chosen c.args.sites.now c.in-Some.group;
+  passed = none_yet c.args.wanted c.args.plan.now c.args.told.now c.args.standing.chosen c.args.sites.now c.in-Some.group;
 }
 
 pub loop-site-preserved : goal.loop-site-preserved
 loop-site-preserved g t c = record {
   standing = c.in_ok-next.ensures.standing;
   fallen = fallen_after c.args.standing.chosen c.loop-site.standing.chosen c.in_ok-next.next.chosen c.loop-site.invariant.fallen c.in_ok-next.ensures.fallen;
-  passed = next_site c.args.wanted c.args.plan.now c.loop-site.standing.chosen c.in_ok-next.next.chosen c.args.sites.now c.in_ok-more.more.items c.deref.result.now c.sites_of-homes.result.now
+  passed = next_site c.args.wanted c.args.plan.now c.args.told.now c.loop-site.standing.chosen c.in_ok-next.next.chosen c.args.sites.now c.in_ok-more.more.items c.deref.result.now c.sites_of-homes.result.now
       c.in-Some.group c.loop-site.site-index (slice_get_within c.args.sites.now c.in-Some.group None c.in-Some.ensures.some) c.sites_of-homes.ensures.value
       c.deref.ensures.value c.in_ok-more.ensures c.in_ok-next.ensures.fallen c.loop-site.invariant.passed c.in_ok-next.ensures.passed;
 }
@@ -59,6 +59,6 @@ returns g t c =
     record {
       standing = c.loop-site.invariant.standing;
       fallen = c.loop-site.invariant.fallen;
-      passed = all_sites c.args.wanted c.args.plan.now c.loop-site.standing.chosen c.args.sites.now c.sites_of-homes.result.now c.in-Some.group c.loop-site.site-index
+      passed = all_sites c.args.wanted c.args.plan.now c.args.told.now c.loop-site.standing.chosen c.args.sites.now c.sites_of-homes.result.now c.in-Some.group c.loop-site.site-index
           (omega (arith, within, as_many, long)) c.sites_of-homes.ensures.value (omega arith) c.loop-site.invariant.passed;
     }

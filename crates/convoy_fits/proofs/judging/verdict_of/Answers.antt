@@ -1,7 +1,7 @@
 use Rattle.std.proofs.Common.{◌≡◌, ◌∙◌, List, None, Some, ap, sym, inr}
 use Rattle.convoy_traces.specs.declared.told.Told.{Told}
 use Rattle.convoy_fits.specs.Tests.{departure_in}
-use Rattle.convoy_fits.proofs.Fine.{real_run}
+use Rattle.convoy_fits.proofs.Fine.{real_run, target_group_kept, target_message_kept}
 use Rattle.convoy_fits.proofs.Judged.{judged_none, judged_some, late_from}
 use Rattle.convoy_fits.proofs.judging.verdict_of.Goals as goal
 
@@ -31,5 +31,7 @@ returns-in-None c =
       run = real_run c.args.trace.now.factor c.args.scenario.now c.args.finer.now r.finer c.args.schedule.now c.delay-lawful.ensures.lawful r.assignment;
       done = judged.0;
       complete = judged.1;
-      late = late_from _ _ _ c.latency_told.ensures r.run.latency;
+      late =
+          late_from c.args.scenario.now c.args.finer.now c.args.trace.now _ _ _ (target_message_kept c.args.trace.now.factor c.args.scenario.now c.args.finer.now r.finer)
+          (target_group_kept c.args.trace.now.factor c.args.scenario.now c.args.finer.now r.finer) c.latency_told.ensures r.run.latency;
     }

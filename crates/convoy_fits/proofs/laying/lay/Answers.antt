@@ -1,4 +1,4 @@
-use Rattle.std.proofs.Common.{length, arith}
+use Rattle.std.proofs.Common.{arith}
 use Rattle.convoy_packets.specs.Assignment.{ranges_of}
 use Rattle.convoy_fits.proofs.Lengths.{length_within}
 use Rattle.convoy_fits.proofs.laying.lay.Goals as goal

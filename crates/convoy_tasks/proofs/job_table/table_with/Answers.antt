@@ -12,4 +12,4 @@ cells_of-requires c =
 pub loop-i-preserved : goal.loop-i-preserved
 loop-i-preserved c =
     c.in_ok-push.ensures
-    ∙ one_more_row c.args.judged c.args.rows.now c.loop-i.i c.index-rows-i.result _ _ c.loop-i-test.true c.index-rows-i.is c.loop-i.invariant c.in_ok-cells_of.ensures
+    ∙ one_more_row c.args.judged c.args.sure c.args.rows.now c.loop-i.i c.index-rows-i.result _ _ c.loop-i-test.true c.index-rows-i.is c.loop-i.invariant c.in_ok-cells_of.ensures

@@ -1,0 +1,5 @@
+mod Unions
+mod Late
+mod SameSums
+mod Rows
+mod Sums

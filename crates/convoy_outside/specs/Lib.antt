@@ -1,0 +1,12 @@
+pub use Rattle.convoy_toml.specs.Outside
+pub use Rattle.convoy_toml.specs.Shares
+pub use Rattle.convoy_times.specs.Measures
+pub use Rattle.convoy_laws.specs.FinerTicks
+pub use Rattle.convoy_sim.specs.Greatest
+pub use Rattle.convoy_packets.specs.Assignment
+pub use Rattle.convoy_packets.specs.Packets
+pub use Rattle.convoy_scenario.specs.Naming
+pub use Rattle.convoy_scenario.specs.Scenario
+pub mod Sums
+pub mod Percents
+pub mod OutsideLaws

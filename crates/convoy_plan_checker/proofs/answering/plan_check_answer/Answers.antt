@@ -1,0 +1,23 @@
+use Rattle.std.proofs.Common.{ℕ, List, ◌++◌, inl, refl, ap, subst, ◌∙◌}
+use Rattle.convoy_best_plan.proofs.ReadPlans.{read_by}
+use Rattle.convoy_plan_checker.specs.PlanCheckAnswers.{IsHeaded}
+use Rattle.convoy_plan_checker.proofs.answering.plan_check_answer.Goals as goal
+
+pub returns-in-Ok : goal.returns-in-Ok
+returns-in-Ok c =
+    inl
+    (inl
+    (record {
+      plan = c.in_ok-plan.plan;
+      certificate = c.in-Ok.field-0;
+      stands = record {
+        above = c.parts_of.result.0.now;
+        parts = c.parts_of.ensures.parts ∙ ap (λ (below : List ℕ). c.parts_of.result.0.now ++ below) c.in-Ok.ensures.text;
+        headed = subst IsHeaded c.in-Ok.ensures.text c.parts_of.ensures.headed;
+        read = read_by _ _ _ c.in_ok-plan.ensures.value;
+      };
+      valid = c.in-Ok.ensures.valid;
+      best = c.in-Ok.ensures.best;
+      written = rw (c.written.ensures.text, c.in_ok-line-in-Ok.ensures.items) refl;
+      ends = c.written.ensures.done;
+    }))

@@ -1,0 +1,70 @@
+-- What `check --plan` answers: the text is that of a plan, and below it that of a certificate of the plan.
+use Rattle.std.specs.Prelude.{◌≡◌, ◌⊎◌, ℕ, List, [], ◌∷◌, ◌++◌, length, take, codes, Ok, Err, IsTrue}
+use Rattle.std.specs.Str.{bytes_eq}
+use Rattle.convoy_toml.specs.declared.asked.Asked.{Asked}
+use Rattle.convoy_plans.specs.Plans.{Plan}
+use Rattle.convoy_plans.specs.Reading.{plan_of_text}
+use Rattle.convoy_commands.specs.declared.done.Done.{Done}
+use Rattle.convoy_commands.specs.declared.done.Done.TheVariants as ends
+use Rattle.convoy_commands.specs.declared.fault.Fault.{Fault}
+use Rattle.convoy_commands.specs.Refusals.{refused_line}
+use Rattle.convoy_commands.specs.Replies.{Rule}
+use Rattle.convoy_best_order.specs.declared.wanted.Wanted.{Wanted}
+use Rattle.convoy_best_plan.specs.Answers.{IsFaultyPlan}
+use Rattle.convoy_plan_certificate.specs.declared.plan_certificate.PlanCertificate.{PlanCertificate}
+use Rattle.convoy_plan_certificate.specs.PlanTexts.{plan_certificate_text}
+use Rattle.convoy_plan_checker.specs.declared.plan_refusal.PlanRefusal.{PlanRefusal}
+use Rattle.convoy_plan_checker.specs.PlanCheckLaws.{IsBestChoice}
+use Rattle.convoy_plan_checker.specs.PlanValidity.{IsValidPlan}
+use Rattle.convoy_plan_checker.specs.RefusalLines.{row_of_refusal}
+
+-- the first line of certificates of plans
+abbrev pub first_line : List ℕ
+first_line = codes "convoy plan 1" ++ 10 ∷ []
+
+-- what stands below a plan begins with that line, or is nothing
+abbrev pub IsHeaded : List ℕ → Type 0
+IsHeaded below = (length below ≡ 0) ⊎ IsTrue (bytes_eq (take (length first_line) below) first_line)
+
+-- The text has the text of that plan above, and the other one below.
+pub record IsBelow (asked : Asked) (text : List ℕ) (plan : Plan) (below : List ℕ) : Type 0 where
+  pub above : List ℕ
+  pub parts : text ≡ above ++ below
+  pub headed : IsHeaded below
+  pub read : plan_of_text asked above ≡ Ok plan
+
+-- what is written for a certificate that is accepted
+abbrev pub accepted_plan_line : List ℕ
+accepted_plan_line = codes "accepted" ++ 10 ∷ []
+
+-- THE HEADLINE. `check --plan` accepts: what stands below the plan is the text of a valid certificate of it, for the targets that are wanted, and the choice that it names is the best.
+pub record IsPlanAccepted (wanted : Wanted) (asked : Asked) (text : List ℕ) (end : Done) (out : List ℕ) : Type 0 where
+  pub plan : Plan
+  pub certificate : PlanCertificate
+  pub stands : IsBelow asked text plan (plan_certificate_text certificate)
+  pub valid : IsValidPlan wanted plan certificate
+  pub best : IsBestChoice wanted plan certificate
+  pub written : out ≡ accepted_plan_line
+  pub ends : end ≡ ends.Fine
+
+-- What stands below the plan is refused.
+pub record IsPlanDenied (asked : Asked) (text : List ℕ) (end : Done) (out : List ℕ) : Type 0 where
+  pub plan : Plan
+  pub below : List ℕ
+  pub refusal : PlanRefusal
+  pub stands : IsBelow asked text plan below
+  pub written : out ≡ refused_line (row_of_refusal refusal)
+  pub ends : end ≡ ends.PlanRefused
+
+-- What stands above has this fault as that of a plan.
+pub record IsFaultyAbove (asked : Asked) (text : List ℕ) (fault : Fault) : Type 0 where
+  pub above : List ℕ
+  pub below : List ℕ
+  pub parts : text ≡ above ++ below
+  pub headed : IsHeaded below
+  pub faulty : IsFaultyPlan asked above fault
+
+-- what `check --plan` may answer
+abbrev pub PlanCheckSays : Wanted → Asked → Rule
+PlanCheckSays wanted asked text (Ok (end, out)) = IsPlanAccepted wanted asked text end out ⊎ IsPlanDenied asked text end out
+PlanCheckSays wanted asked text (Err fault) = IsFaultyAbove asked text fault

@@ -1,0 +1,9 @@
+pub mod Lines
+pub mod Marking
+pub mod Indexing
+pub mod Ranks
+pub mod Sharing
+pub mod Moved
+pub mod Ranging
+pub mod Joining
+pub mod Tabled
