@@ -1,12 +1,12 @@
 -- With the groups in any order a message is as late at a group as its commit is there where all takes as long as it may.
-use Rattle.std.proofs.Common.{◌≡◌, ℕ, ◌+◌, ◌-◌, ◌≤◌, ◌==◌, Bool, true, cond, not, ◌&&◌, List, map, get_or, Option, Some, None, is_some, inl, inr, refl, sym, ap, ap₂, ◌∙◌, arith}
-use Rattle.std.proofs.lemmas.Bool.{cases_Bool, cond-false, cond-true, true≢false}
+use Rattle.std.proofs.Common.{◌≡◌, ℕ, ◌+◌, ◌-◌, ◌≤◌, ◌==◌, Bool, true, false, cond, not, ◌&&◌, List, map, get_or, Option, Some, None, is_some, refl, sym, ap, ap₂, ◌∙◌, arith}
+use Rattle.std.proofs.lemmas.Bool.{true≢false}
 use Rattle.std.proofs.lemmas.List.{get_or-map, length-map}
 use Rattle.std.proofs.lemmas.List.Elements.{All-map}
 use Rattle.std.proofs.lemmas.Option.{get_or_from_slice_get, slice_get_within}
 use Rattle.convoy_scenario.specs.declared.sender.Sender.TheVariants.{Group}
 use Rattle.convoy_scenario.specs.Naming.{draft_for}
-use Rattle.convoy_scenario.specs.Scenario.{GoesTo, Scenario, is_same_sender, message_at, range_between}
+use Rattle.convoy_scenario.specs.Scenario.{GoesTo, Scenario, message_at, range_between, takes_time}
 use Rattle.convoy_scenario.specs.ScenarioLaws.{DraftsGiveScenarios, ScenariosHaveDrafts}
 use Rattle.convoy_scenario.specs.WellFormed.{IsScenario}
 use Rattle.convoy_packets.specs.declared.packet.Packet.{Packet}
@@ -25,12 +25,10 @@ use Rattle.convoy_sim.specs.ProtocolLaws.{DeliveredAfterCommit}
 use Rattle.convoy_sim.specs.Times.{arrive, issue, propose_arrive, settle}
 use Rattle.convoy_sim.proofs.Addressed.{goes_from_in}
 use Rattle.convoy_sim.proofs.Membership.{greatest_most, in_greatest}
-use Rattle.convoy_ceiling.specs.Ceiling.{delays_between, longest_by, longest_to_commit}
-use Rattle.convoy_ceiling.proofs.Senders.{sends_itself}
+use Rattle.convoy_ceiling.specs.Ceiling.{delays_between, longest_by, longest_to_commit, stamp_delays}
 use Rattle.convoy_orders.specs.Relisted.{RelistedDraftsAreRenumbered, RelistedDraftsGiveScenarios, number_in, relisted}
-use Rattle.convoy_orders.specs.Renumbered.{IsRenumbered, renumbered_sender}
-use Rattle.convoy_orders.proofs.Renumbering.{same_sender}
-use Rattle.convoy_orders.proofs.SameParts.{same_greatest}
+use Rattle.convoy_orders.specs.Renumbered.{IsRenumbered}
+use Rattle.convoy_orders.proofs.Ceilings.{same_to_commit}
 use Rattle.convoy_scenario.specs.declared.sender.Sender.{Sender}
 use Rattle.convoy_best_order.specs.declared.target.Target.{Target}
 use Rattle.convoy_best_order.specs.Orders.{IsOrder, names_of}
@@ -66,15 +64,15 @@ takes_most plan p sent = by_place (place_of p (packets_of plan)) refl where
       ∙ get_or-map (λ (range : ℕ × ℕ). range.1) (map (range_of plan) (packets_of plan)) i (range_of plan p) 0 (omega (arith, here, long))
       ∙ ap (λ (range : ℕ × ℕ). range.1) (get_or-map (range_of plan) (packets_of plan) i p (range_of plan p) here ∙ ap (range_of plan) same)
 
--- so does each way; what goes to where it is takes no time
-way_takes : (plan : Scenario) (p : Packet) (sender : Sender) (to : ℕ) → is_sent plan p ≡ not (is_same_sender sender (Group to)) → range_of plan p ≡ range_between plan sender to
-    → delay_of plan (greatest_run plan) p ≡ (delays_between plan sender to).1
-way_takes plan p sender to sent range = elim (cases_Bool (is_same_sender sender (Group to))) [
-  | inl home ↦
-      no_time_if_unsent plan (greatest_run plan) p (ap not (sent ∙ ap not home)) ∙ ap (λ (r : ℕ × ℕ). r.1) (sym (cond-true _ (0, 0) (range_between plan sender to) home))
-  | inr away ↦
-      takes_most plan p (sent ∙ ap not away) ∙ ap (λ (r : ℕ × ℕ). r.1) (range ∙ sym (cond-false _ (0, 0) (range_between plan sender to) away))
-]
+-- so does each way; what takes no time is not sent
+way_takes : (plan : Scenario) (p : Packet) (takes : Bool) (range : ℕ × ℕ) → is_sent plan p ≡ takes → range_of plan p ≡ range
+    → delay_of plan (greatest_run plan) p ≡ (cond takes range (0, 0)).1
+way_takes plan p true range sent is = takes_most plan p sent ∙ ap (λ (r : ℕ × ℕ). r.1) is
+way_takes plan p false range sent is = no_time_if_unsent plan (greatest_run plan) p (ap not sent)
+
+cond_not : (b : Bool) (x y : ℕ × ℕ) → cond (not b) x y ≡ cond b y x
+cond_not true x y = refl
+cond_not false x y = refl
 
 module _ (plan : Scenario) (m g : ℕ) (goes : GoesTo plan m g) where
   abbrev run : Schedule
@@ -83,8 +81,12 @@ module _ (plan : Scenario) (m g : ℕ) (goes : GoesTo plan m g) where
   by_way : (h : ℕ) → GoesTo plan m h → propose_arrive plan run m g h ≡ issue plan run m + longest_by plan (message_at plan m).sender g h
   unfolding arrive
   by_way h to_h =
-      let first = way_takes plan (Multicast m h) (message_at plan m).sender h (ap₂ (λ a b. a && not b) to_h (sends_itself (message_at plan m) h)) refl in
-      let second = way_takes plan (Propose m h g) (Group h) g (ap₂ (λ a b. a && b && not (h == g)) to_h goes) refl in
+      let sender : Sender = (message_at plan m).sender in
+      let first : delay_of plan run (Multicast m h) ≡ (delays_between plan sender h).1 =
+      way_takes plan (Multicast m h) (takes_time plan sender h) (range_between plan sender h) (ap (λ b. b && takes_time plan sender h) to_h) refl in
+      let second : delay_of plan run (Propose m h g) ≡ (stamp_delays plan h g).1 =
+      way_takes plan (Propose m h g) (not (h == g)) (range_between plan (Group h) g) (ap₂ (λ a b. a && b && not (h == g)) to_h goes) refl
+      ∙ ap (λ (r : ℕ × ℕ). r.1) (cond_not (h == g) (range_between plan (Group h) g) (0, 0)) in
       omega (arith, first, second)
 
   commits_late : longest_to_commit plan m g ≤ settle plan run m g - issue plan run m
@@ -104,20 +106,6 @@ module _ (plan : Scenario) (m g : ℕ) (goes : GoesTo plan m g) where
       omega (arith, commit, past)
 
 -- ---- with the groups in an order
-module _ (renumber back : ℕ → ℕ) (plan other : Scenario) (is : IsRenumbered renumber back plan other) where
-  same_delays : (sender : Sender) (to : ℕ) → delays_between other (renumbered_sender renumber sender) (renumber to) ≡ delays_between plan sender to
-  same_delays sender to =
-      ap₂ (λ (b : Bool) (range : ℕ × ℕ). cond b (0, 0) range) (same_sender renumber back is.back_again sender (Group to)) (is.ranges sender to)
-
-  sender_delays : (m to : ℕ) → delays_between other (message_at other m).sender (renumber to) ≡ delays_between plan (message_at plan m).sender to
-  sender_delays m to =
-      ap (λ (s : Sender). delays_between other s (renumber to)) (is.messages m).sender ∙ same_delays (message_at plan m).sender to
-
-  same_to_commit : (m g : ℕ) → longest_to_commit other m (renumber g) ≡ longest_to_commit plan m g
-  same_to_commit m g =
-      same_greatest renumber back plan other is (longest_by plan (message_at plan m).sender g) (longest_by other (message_at other m).sender (renumber g)) m
-      (λ h goes. ap₂ (λ (a b : ℕ × ℕ). a.1 + b.1) (sender_delays m h) (same_delays (Group h) g))
-
 module _ (have : ScenariosHaveDrafts) (given : DraftsGiveScenarios) (give : RelistedDraftsGiveScenarios) (renumbered : RelistedDraftsAreRenumbered) (after : DeliveredAfterCommit)
     (scenario : Scenario) (target : Target) (well : IsScenario scenario) (may : MayBeTarget scenario target) (order : List ℕ) (is : IsOrder scenario order) where
   abbrev asked : Scenario

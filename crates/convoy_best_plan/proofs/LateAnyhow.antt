@@ -1,7 +1,7 @@
 -- All placements that have some sites are passed where some target is too late by its commit alone.
-use Rattle.std.proofs.Common.{◌≡◌, ℕ, zero, suc, ◌<◌, ◌≤◌, Bool, true, false, cond, max, List, [], ◌∷◌, length, map, fold, get_or, Option, Some, None, Ok, inl, inr, refl, sym, ap, subst, subst₂, ◌∙◌, arith}
+use Rattle.std.proofs.Common.{◌≡◌, ℕ, zero, suc, ◌<◌, ◌≤◌, ◌==◌, Bool, true, false, not, ◌||◌, cond, max, List, [], ◌∷◌, length, map, fold, get_or, Option, Some, None, is_some, Ok, inl, inr, refl, sym, ap, subst, subst₂, ◌∙◌, arith}
 use Rattle.std.specs.List.{Contains, sum_by}
-use Rattle.std.proofs.lemmas.Bool.{both_ways, eq-eqb}
+use Rattle.std.proofs.lemmas.Bool.{both_ways, cond-true, eq-eqb}
 use Rattle.std.proofs.lemmas.List.Sums.{sum_by-cons}
 use Rattle.std.proofs.lemmas.Option.{same_Some}
 use Rattle.convoy_scenario.specs.declared.sender.Sender.{Sender}
@@ -9,14 +9,14 @@ use Rattle.convoy_scenario.specs.declared.sender.Sender.TheVariants as senders
 use Rattle.convoy_scenario.specs.Numbering.{numbers_of}
 use Rattle.convoy_scenario.specs.Room.{HasRoom}
 use Rattle.convoy_scenario.specs.Targets.{with_target}
-use Rattle.convoy_scenario.specs.Scenario.{Message, Scenario, is_addressed, is_same_sender, message_at, no_message, range_between}
+use Rattle.convoy_scenario.specs.Scenario.{Message, Scenario, is_addressed, is_same_sender, link_between, message_at, no_message, range_between, takes_time}
 use Rattle.convoy_scenario.specs.ScenarioLaws.{DraftsGiveScenarios, ScenariosHaveDrafts}
 use Rattle.convoy_draft.specs.Checks.{is_among}
 use Rattle.convoy_toml.specs.Shape.{WrittenMessage}
 use Rattle.convoy_sim.specs.ProtocolLaws.{DeliveredAfterCommit}
 use Rattle.convoy_sim.proofs.Addressed.{in_of_goes}
 use Rattle.convoy_sim.proofs.Membership.{IsIn, all-in, greatest_most, in_greatest, in_of_contains, in_of_filter, in_of_range}
-use Rattle.convoy_ceiling.specs.Ceiling.{delays_between, longest_by, longest_to_commit}
+use Rattle.convoy_ceiling.specs.Ceiling.{delays_between, longest_by, longest_to_commit, stamp_delays}
 use Rattle.convoy_orders.specs.Relisted.{RelistedDraftsAreRenumbered, RelistedDraftsGiveScenarios}
 use Rattle.convoy_plans.specs.declared.plan.Origin.{Origin}
 use Rattle.convoy_plans.specs.declared.plan.Origin.TheVariants.{Site, Group}
@@ -40,6 +40,9 @@ use Rattle.convoy_best_plan.specs.Totals.{total_at, total_of}
 use Rattle.convoy_best_plan.proofs.Agreeing.{Agree, agree, message_count, same_targets, well_made}
 use Rattle.convoy_best_plan.proofs.Commits.{commit_reached}
 use Rattle.convoy_best_plan.proofs.Lower.{most_most, reached_lower, reached_total}
+
+none_less : (n : ℕ) → 0 ≤ n
+none_less n = omega arith
 
 -- ---- lists
 pub greatest_both : (f k : ℕ → ℕ) (xs : List ℕ) → ((x : ℕ) → IsIn x xs → f x ≤ k x) → fold max 0 (map f xs) ≤ fold max 0 (map k xs)
@@ -90,11 +93,25 @@ module _ (sites_law : RangesAreOfSites) (messages_law : MessagesAreOfPlans) (pla
     itself e = ap (λ (s : Sender). is_same_sender s (senders.Group g)) (same ∙ ap (sender_for plan) e) ∙ eq-eqb g g refl
 
     by_test : (b : Bool) → is_same_sender sender (senders.Group g) ≡ b
-        → cond b 0 (most_known plan (origin_site sites from) (site_known sites g)) ≤ (cond b (0, 0) (range_between scenario sender g)).1
-    by_test true here = omega arith
+        → cond b 0 (most_known plan (origin_site sites from) (site_known sites g)) ≤ (delays_between scenario sender g).1
+    by_test true here = none_less (delays_between scenario sender g).1
     by_test false away =
-        subst (λ (s : Sender). most_known plan (origin_site sites from) (site_known sites g) ≤ (range_between scenario s g).1) (sym same)
-        (known_most from g origin known (λ e. both_ways _ away (itself e)))
+        let takes : takes_time scenario sender g ≡ true = ap (λ (home : Bool). not home || is_some (link_between scenario.links sender g)) away in
+        subst (λ (range : ℕ × ℕ). most_known plan (origin_site sites from) (site_known sites g) ≤ range.1) (sym (cond-true _ _ _ takes))
+        (subst (λ (s : Sender). most_known plan (origin_site sites from) (site_known sites g) ≤ (range_between scenario s g).1) (sym same)
+        (known_most from g origin known (λ e. both_ways _ away (itself e))))
+
+  -- so does a stamp from group to group
+  stamp_low : (h g : ℕ) → h < length plan.written.groups → g < length plan.written.groups
+      → way_known plan sites (senders.Group h) (Group h) g ≤ (stamp_delays scenario h g).1
+  stamp_low h g origin known = by_test (h == g) refl where
+    itself : ◌≡◌ {A = Origin} (Group h) (Group g) → (h == g) ≡ true
+    itself e = ap (λ (s : Sender). is_same_sender s (senders.Group g)) (ap (sender_for plan) e) ∙ eq-eqb g g refl
+
+    by_test : (b : Bool) → (h == g) ≡ b
+        → cond b 0 (most_known plan (origin_site sites (Group h)) (site_known sites g)) ≤ (cond b (0, 0) (range_between scenario (senders.Group h) g)).1
+    by_test true here = omega arith
+    by_test false away = known_most (Group h) g origin known (λ e. both_ways _ away (itself e))
 
   module _ (m : ℕ) (low : m < length plan.written.messages) where
     pub goes_known : (h : ℕ) → IsIn h (message_at scenario m).destinations → h < length plan.written.groups
@@ -109,7 +126,7 @@ module _ (sites_law : RangesAreOfSites) (messages_law : MessagesAreOfPlans) (pla
         greatest_both (way_by plan sites (message_at scenario m).sender (origin_of plan m) g) (longest_by scenario (message_at scenario m).sender g) (message_at scenario m).destinations
         (λ h i.
         let first = way_low (message_at scenario m).sender (origin_of plan m) h of.sender of.origin (goes_known h i) in
-        let second = way_low (senders.Group h) (Group h) g refl (goes_known h i) known in
+        let second = stamp_low h g (goes_known h i) known in
         omega (arith, first, second))
 
   pub total_low : length scenario.multicasts ≡ length plan.written.messages → total_known plan scenario sites ≤ total_of scenario

@@ -3,7 +3,7 @@ use Rattle.std.specs.Prelude.{ℕ, ◌==◌, Bool, ◌&&◌, not, if◌then◌el
 use Rattle.std.specs.List.{flat_map, list_any, range_with_len}
 use Rattle.convoy_scenario.specs.declared.sender.Sender.{Sender}
 use Rattle.convoy_scenario.specs.declared.sender.Sender.TheVariants.{Client, Group}
-use Rattle.convoy_scenario.specs.Scenario.{Scenario, is_same_sender}
+use Rattle.convoy_scenario.specs.Scenario.{Scenario, is_same_sender, takes_time}
 use Rattle.convoy_packets.specs.declared.packet.Packet.{Packet}
 use Rattle.convoy_packets.specs.Assignment.{receiver_of, sender_of}
 use Rattle.convoy_packets.specs.Packets.{is_wait, packets_of}
@@ -13,13 +13,13 @@ use Rattle.convoy_budget.specs.declared.kinds.Way.{Way}
 abbrev pub group_numbers : Scenario → List ℕ
 group_numbers scenario = range_with_len 0 (length scenario.groups)
 
--- the way from the sender to the group, if these are two places
-abbrev pub way_to : Sender → ℕ → List Way
-way_to sender to = if is_same_sender sender (Group to) then [] else record { sender = sender; to = to } ∷ []
+-- the way from the sender to the group, if it takes time
+abbrev pub way_to : Scenario → Sender → ℕ → List Way
+way_to scenario sender to = if takes_time scenario sender to then record { sender = sender; to = to } ∷ [] else []
 
 -- the ways from a sender, by the group that they lead to
 abbrev pub ways_from : Scenario → Sender → List Way
-ways_from scenario sender = flat_map (way_to sender) (group_numbers scenario)
+ways_from scenario sender = flat_map (way_to scenario sender) (group_numbers scenario)
 
 -- all ways, those of clients first, and then by the group that sends
 abbrev pub all_ways : Scenario → List Way

@@ -25,7 +25,7 @@ pub fn ways_of(alloc: Global, instance: &Instance) -> Result<Vec<Way>, AllocErro
     Ok(ways)
 }
 
-/// All ways from a client or a group to another group.
+/// All ways from a client or a group to a group: to itself where it has a link to itself.
 pub(crate) fn all_ways(alloc: Global, scenario: &Scenario) -> Result<Vec<Way>, AllocError>
     ensures { IfOk result (λ ways. ways.items ≡ all_ways scenario.now) }
 {
@@ -51,16 +51,21 @@ fn push_ways(scenario: &Scenario, sender: Sender, ways: &mut Vec<Way>) -> Result
     ensures { OnOk result (ways.new.items ≡ ways.old.items ++ ways_from scenario.now sender) }
 {
     for to in 0..scenario.group_count() {
-        push_way(sender, to, ways)?;
+        push_way(scenario, sender, to, ways)?;
     }
     Ok(())
 }
 
-/// Appends the way from a sender to a group, if these are two places.
-fn push_way(sender: Sender, to: usize, ways: &mut Vec<Way>) -> Result<(), AllocError>
-    ensures { OnOk result (ways.new.items ≡ ways.old.items ++ way_to sender to) }
+/// Appends the way from a sender to a group, if it takes time.
+fn push_way(
+    scenario: &Scenario,
+    sender: Sender,
+    to: usize,
+    ways: &mut Vec<Way>,
+) -> Result<(), AllocError>
+    ensures { OnOk result (ways.new.items ≡ ways.old.items ++ way_to scenario.now sender to) }
 {
-    if !is_same_sender(sender, Sender::Group(to)) {
+    if scenario.takes_time(sender, to) {
         ways.push(Way { sender, to })?;
     }
     Ok(())

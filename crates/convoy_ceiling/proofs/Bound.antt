@@ -13,7 +13,7 @@ use Rattle.convoy_sim.specs.ProtocolLaws.{arrive_by}
 use Rattle.convoy_sim.specs.Traffic.{IsTraffic}
 use Rattle.convoy_sim.proofs.Membership.{IsIn, in_of_filter, in_greatest, greatest_most}
 use Rattle.convoy_sim.proofs.Addressed.{goes_from_in, goes_of_addressed, in-addressed}
-use Rattle.convoy_ceiling.specs.Ceiling.{CeilingHolds, CeilingHoldsForAnyKinds, CeilingHoldsInFinerTicks, CeilingIsUpper, IsFinerTrafficOf, IsOfKind, ceiling_at, ceiling_of, delays_between, longest_by, longest_to_commit, longest_from_arrival, longest_after}
+use Rattle.convoy_ceiling.specs.Ceiling.{CeilingHolds, CeilingHoldsForAnyKinds, CeilingHoldsInFinerTicks, CeilingIsUpper, IsFinerTrafficOf, IsOfKind, ceiling_at, ceiling_of, delays_between, longest_by, longest_to_commit, longest_from_arrival, longest_after, stamp_delays}
 use Rattle.convoy_ceiling.proofs.Used.{Used}
 use Rattle.convoy_ceiling.proofs.SameKinds.{goes_too, kinds_go, own_kinds, same_ticks, kind_of, is_traffic}
 use Rattle.convoy_ceiling.proofs.WithinRanges.{multicast_within, propose_within}
@@ -40,7 +40,7 @@ module _ (used : Used) (times : ℕ) (scenario traffic : Scenario) (is : IsFiner
         let second = (propose_within used times scenario traffic is schedule within m h g to_h goes).1 in
         let most = times_rise times _ _
         (in_greatest (longest_by scenario sender g) h (message_at scenario n).destinations (subst (IsIn h) kind.destinations i)) in
-        let both = times_plus times (delays_between scenario sender h).1 (delays_between scenario (Group h) g).1 in
+        let both = times_plus times (delays_between scenario sender h).1 (stamp_delays scenario h g).1 in
         omega arith)
 
     -- it arrives no sooner than the least delay of its kind after its issue

@@ -1,15 +1,15 @@
 -- No ceiling is above 4 D, as no range goes beyond D; and it is below 4 D where all that comes to the group takes a tick.
-use Rattle.std.proofs.Common.{◌≡◌, ℕ, ◌-◌, ◌*◌, ◌<◌, ◌≤◌, ◌==◌, ◌&&◌, inl, inr, length, Option, Some, None, false, refl, sym, subst, ◌∙◌, arith}
-use Rattle.std.specs.Option.{option_map_or}
+use Rattle.std.proofs.Common.{◌≡◌, ℕ, ◌-◌, ◌*◌, ◌<◌, ◌≤◌, ◌==◌, ◌&&◌, ◌||◌, not, inl, inr, length, Option, Some, None, true, false, ap, refl, sym, subst, ◌∙◌, arith}
+use Rattle.std.specs.Option.{is_some, option_map_or}
 use Rattle.std.proofs.lemmas.Bool.{cases_Bool, cond-true, cond-false}
 use Rattle.convoy_scenario.specs.declared.sender.Sender.{Sender}
 use Rattle.convoy_scenario.specs.declared.sender.Sender.TheVariants.{Group}
-use Rattle.convoy_scenario.specs.Scenario.{Link, Scenario, GoesTo, message_at, is_same_sender, is_sent_by, link_between, range_between}
+use Rattle.convoy_scenario.specs.Scenario.{Link, Scenario, GoesTo, message_at, is_same_sender, is_sent_by, link_between, range_between, takes_time}
 use Rattle.convoy_scenario.specs.WellFormed.{IsScenario, IsLink}
 use Rattle.convoy_sim.specs.Delivery.{addressed_to}
 use Rattle.convoy_sim.proofs.Membership.{all-in, greatest_most, in_of_find}
 use Rattle.convoy_sim.proofs.Addressed.{goes_of_addressed}
-use Rattle.convoy_ceiling.specs.Ceiling.{CeilingBelowFourDelays, CeilingWithinFourDelays, ceiling_at, delays_between, longest_by, longest_to_commit, longest_from_arrival, longest_after}
+use Rattle.convoy_ceiling.specs.Ceiling.{CeilingBelowFourDelays, CeilingWithinFourDelays, ceiling_at, delays_between, longest_by, longest_to_commit, longest_from_arrival, longest_after, stamp_delays}
 use Rattle.convoy_ceiling.proofs.Senders.{sends_itself}
 
 -- the range of a link, or of what has none
@@ -27,16 +27,22 @@ module _ (scenario : Scenario) (well : IsScenario scenario) where
         (is.low, is.high)
 
   delay_most : (sender : Sender) (to : ℕ) → (delays_between scenario sender to).1 ≤ scenario.delay
-  delay_most sender to = elim (cases_Bool (is_same_sender sender (Group to))) [
+  delay_most sender to = elim (cases_Bool (takes_time scenario sender to)) [
+    | inl away ↦ subst (λ (range : ℕ × ℕ). range.1 ≤ scenario.delay) (sym (cond-true _ _ _ away)) (range_within sender to).1
+    | inr home ↦ subst (λ (range : ℕ × ℕ). range.1 ≤ scenario.delay) (sym (cond-false _ _ _ home)) (omega arith)
+  ]
+
+  stamp_most : (from to : ℕ) → (stamp_delays scenario from to).1 ≤ scenario.delay
+  stamp_most from to = elim (cases_Bool (from == to)) [
     | inl home ↦ subst (λ (range : ℕ × ℕ). range.1 ≤ scenario.delay) (sym (cond-true _ _ _ home)) (omega arith)
-    | inr away ↦ subst (λ (range : ℕ × ℕ). range.1 ≤ scenario.delay) (sym (cond-false _ _ _ away)) (range_within sender to).1
+    | inr away ↦ subst (λ (range : ℕ × ℕ). range.1 ≤ scenario.delay) (sym (cond-false _ _ _ away)) (range_within (Group from) to).1
   ]
 
   commit_most : (m g : ℕ) → longest_to_commit scenario m g ≤ 2 * scenario.delay
   commit_most m g = greatest_most (longest_by scenario (message_at scenario m).sender g) (2 * scenario.delay) (message_at scenario m).destinations
       (λ h i.
       let first = delay_most (message_at scenario m).sender h in
-      let second = delay_most (Group h) g in
+      let second = stamp_most h g in
       omega arith)
 
   after_most : (g : ℕ) → longest_after scenario g ≤ 2 * scenario.delay
@@ -47,7 +53,9 @@ module _ (scenario : Scenario) (well : IsScenario scenario) where
   from_arrival_less : (m g : ℕ) → is_sent_by (message_at scenario m) g ≡ false → longest_from_arrival scenario g m < 2 * scenario.delay
   from_arrival_less m g away =
       let sender : Sender = (message_at scenario m).sender in
-      let least : 1 ≤ (delays_between scenario sender g).0 = subst (λ (range : ℕ × ℕ). 1 ≤ range.0) (sym (cond-false _ _ _ (sym (sends_itself (message_at scenario m) g) ∙ away))) (range_within sender g).0 in
+      let takes : takes_time scenario sender g ≡ true =
+      ap (λ same. not same || is_some (link_between scenario.links sender g)) (sym (sends_itself (message_at scenario m) g) ∙ away) in
+      let least : 1 ≤ (delays_between scenario sender g).0 = subst (λ (range : ℕ × ℕ). 1 ≤ range.0) (sym (cond-true _ _ _ takes)) (range_within sender g).0 in
       let most = commit_most m g in
       let some = well.delay_low in
       omega arith

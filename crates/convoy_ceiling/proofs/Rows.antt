@@ -49,6 +49,11 @@ to_itself : ceiling_of (with_messages (message (codes "m") (Group 0) (0 ∷ []) 
 unfolding with_messages base_with message ceiling_at ceiling_of
 to_itself = refl
 
+-- with a link to itself its message takes 3 ticks to its commit, and may wait one more for another of its kind
+by_link_to_itself : ceiling_of (record (with_messages (message (codes "m") (Group 0) (0 ∷ []) 0 ∷ [])) { links = link (Group 0) 0 2 3 ∷ [] }) ≡ 4
+unfolding with_messages base_with message link ceiling_at ceiling_of
+by_link_to_itself = refl
+
 -- traffic of the base scenario's kinds: a message of the kind of t at tick 5, three of that of y at tick 3, and one of that of t at tick 0
 unfoldable busy : Scenario
 busy = record base {

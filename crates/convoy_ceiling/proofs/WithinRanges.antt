@@ -1,16 +1,16 @@
 -- The delays of traffic, whatever the order of ties, are within the ranges of the scenario of which its kinds are.
 use Rattle.std.proofs.Common.{◌≡◌, ℕ, ◌*◌, ◌≤◌, ◌==◌, true, false, ◌&&◌, not, inl, inr, refl, sym, ap, ap₂, subst, subst₂, ◌∙◌, arith}
-use Rattle.std.proofs.lemmas.Bool.{cases_Bool, cond-true, cond-false}
-use Rattle.convoy_scenario.specs.declared.sender.Sender.TheVariants.{Group}
-use Rattle.convoy_scenario.specs.Scenario.{Scenario, GoesTo, message_at, is_same_sender}
+use Rattle.std.proofs.lemmas.Bool.{cases_Bool, cond-true, cond-false, eqb-true}
+use Rattle.convoy_scenario.specs.declared.sender.Sender.{Sender}
+use Rattle.convoy_scenario.specs.declared.sender.Sender.TheVariants.{Client, Group}
+use Rattle.convoy_scenario.specs.Scenario.{Scenario, GoesTo, message_at, takes_time}
 use Rattle.convoy_packets.specs.declared.packet.Packet.{Packet}
 use Rattle.convoy_packets.specs.declared.packet.Packet.TheVariants.{Multicast, Propose}
 use Rattle.convoy_packets.specs.Packets.{is_wait}
-use Rattle.convoy_packets.specs.Assignment.{Schedule, AreWithin, IsWithin, delay_of, in_fixed_order, range_of, ranges_of, receiver_of, sender_of}
+use Rattle.convoy_packets.specs.Assignment.{Schedule, AreWithin, IsWithin, delay_of, in_fixed_order, range_of, ranges_of}
 use Rattle.convoy_packets.specs.ScheduleLaws.{is_sent}
-use Rattle.convoy_ceiling.specs.Ceiling.{IsFinerTrafficOf, delays_between}
+use Rattle.convoy_ceiling.specs.Ceiling.{IsFinerTrafficOf, delays_between, range_by, stamp_delays}
 use Rattle.convoy_ceiling.proofs.Used.{Used}
-use Rattle.convoy_ceiling.proofs.Senders.{sends_itself}
 
 -- the delay is within so many times the range
 abbrev pub IsTimesWithin : ℕ → ℕ × ℕ → ℕ → Type 0
@@ -23,31 +23,55 @@ module _ (used : Used) (times : ℕ) (scenario traffic : Scenario) (is : IsFiner
   sent_within packet sent =
       used.within traffic (in_fixed_order schedule.delays) packet (record { delays = within; order = used.fixed traffic }) sent
 
-  packet_within : (packet : Packet) → is_wait packet ≡ false
-      → is_sent traffic packet ≡ not (is_same_sender (sender_of traffic packet) (Group (receiver_of packet)))
-      → IsTimesWithin times (delays_between scenario (sender_of traffic packet) (receiver_of packet)) (delay_of traffic schedule packet)
-  packet_within packet none_waits sent = elim (cases_Bool (is_same_sender (sender_of traffic packet) (Group (receiver_of packet)))) [
-    | inl home ↦
-        let none : delay_of traffic schedule packet ≡ 0 = used.unsent traffic schedule packet (ap not (sent ∙ ap not home)) in
-        subst₂ (IsTimesWithin times) (sym (cond-true _ _ _ home)) (sym none) (omega arith, omega arith)
-    | inr away ↦
-        let is_so = sent ∙ ap not away in
-        let own = sent_within packet is_so in
-        let moves = ap₂ (λ a b. a && not b) is_so none_waits in
-        let least = is.least packet moves in
-        let most = is.most packet moves in
-        subst (λ range. IsTimesWithin times range (delay_of traffic schedule packet)) (sym (cond-false _ _ _ away))
-        (omega (arith, least, own.0), omega (arith, most, own.1))
+  -- what is sent takes time within so many times the range that the scenario's links give it
+  sent_times : (packet : Packet) → is_wait packet ≡ false → is_sent traffic packet ≡ true
+      → IsTimesWithin times (range_by scenario traffic packet) (delay_of traffic schedule packet)
+  sent_times packet none_waits sent =
+      let own = sent_within packet sent in
+      let moves = ap₂ (λ a b. a && not b) sent none_waits in
+      let least = is.least packet moves in
+      let most = is.most packet moves in
+      (omega (arith, least, own.0), omega (arith, most, own.1))
+
+  -- what is not sent takes none
+  unsent_times : (packet : Packet) → is_sent traffic packet ≡ false → IsTimesWithin times (0, 0) (delay_of traffic schedule packet)
+  unsent_times packet away =
+      let none : delay_of traffic schedule packet ≡ 0 = used.unsent traffic schedule packet (ap not away) in
+      subst (IsTimesWithin times (0, 0)) (sym none) (omega arith, omega arith)
+
+  -- what takes time in the traffic takes time in the scenario
+  same_takes : (sender : Sender) (to : ℕ) → takes_time traffic sender to ≡ takes_time scenario sender to
+  same_takes Client to = refl
+  same_takes (Group g) to = elim (cases_Bool (g == to)) [
+    | inl home ↦ subst (λ (k : ℕ). takes_time traffic (Group k) to ≡ takes_time scenario (Group k) to) (sym (eqb-true g to home)) (is.home to)
+    | inr away ↦ rw away refl
   ]
 
   -- a message on its way to one of its destinations
   pub multicast_within : (m h : ℕ) → GoesTo traffic m h
       → IsTimesWithin times (delays_between scenario (message_at traffic m).sender h) (delay_of traffic schedule (Multicast m h))
   multicast_within m h goes =
-      packet_within (Multicast m h) refl (ap₂ (λ a b. a && not b) goes (sends_itself (message_at traffic m) h))
+      let sender : Sender = (message_at traffic m).sender in
+      let sent : is_sent traffic (Multicast m h) ≡ takes_time scenario sender h = ap (λ b. b && takes_time traffic sender h) goes ∙ same_takes sender h in
+      elim (cases_Bool (takes_time scenario sender h)) [
+        | inl takes ↦
+            subst (λ range. IsTimesWithin times range (delay_of traffic schedule (Multicast m h))) (sym (cond-true _ _ _ takes))
+            (sent_times (Multicast m h) refl (sent ∙ takes))
+        | inr home ↦
+            subst (λ range. IsTimesWithin times range (delay_of traffic schedule (Multicast m h))) (sym (cond-false _ _ _ home))
+            (unsent_times (Multicast m h) (sent ∙ home))
+      ]
 
   -- a proposal for it on its way from the one to another
   pub propose_within : (m h g : ℕ) → GoesTo traffic m h → GoesTo traffic m g
-      → IsTimesWithin times (delays_between scenario (Group h) g) (delay_of traffic schedule (Propose m h g))
+      → IsTimesWithin times (stamp_delays scenario h g) (delay_of traffic schedule (Propose m h g))
   propose_within m h g from to =
-      packet_within (Propose m h g) refl (ap₂ (λ a b. a && b && not (h == g)) from to)
+      let sent : is_sent traffic (Propose m h g) ≡ not (h == g) = ap₂ (λ a b. a && b && not (h == g)) from to in
+      elim (cases_Bool (h == g)) [
+        | inl home ↦
+            subst (λ range. IsTimesWithin times range (delay_of traffic schedule (Propose m h g))) (sym (cond-true _ _ _ home))
+            (unsent_times (Propose m h g) (sent ∙ ap not home))
+        | inr away ↦
+            subst (λ range. IsTimesWithin times range (delay_of traffic schedule (Propose m h g))) (sym (cond-false _ _ _ away))
+            (sent_times (Propose m h g) refl (sent ∙ ap not away))
+      ]

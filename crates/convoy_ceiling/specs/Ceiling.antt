@@ -1,8 +1,8 @@
 -- The ceiling: a number that no latency exceeds, whatever traffic of a scenario's kinds of messages there is.
-use Rattle.std.specs.Prelude.{◌≡◌, ℕ, ◌+◌, ◌-◌, ◌*◌, ◌≤◌, ◌<◌, Bool, ◌&&◌, not, length, map, All, IsFalse, IsTrue, if◌then◌else◌}
+use Rattle.std.specs.Prelude.{◌≡◌, ℕ, ◌+◌, ◌-◌, ◌*◌, ◌≤◌, ◌<◌, ◌==◌, Bool, ◌&&◌, not, length, map, All, IsFalse, IsTrue, if◌then◌else◌}
 use Rattle.convoy_scenario.specs.declared.sender.Sender.{Sender}
 use Rattle.convoy_scenario.specs.declared.sender.Sender.TheVariants.{Group}
-use Rattle.convoy_scenario.specs.Scenario.{Message, Scenario, GoesTo, message_at, is_same_sender, is_sent_by, range_between}
+use Rattle.convoy_scenario.specs.Scenario.{Message, Scenario, GoesTo, message_at, is_sent_by, range_between, takes_time}
 use Rattle.convoy_scenario.specs.WellFormed.{IsScenario}
 use Rattle.convoy_packets.specs.declared.packet.Packet.{Packet}
 use Rattle.convoy_packets.specs.Packets.{is_wait}
@@ -13,13 +13,17 @@ use Rattle.convoy_sim.specs.Delivery.{addressed_to, latency_at}
 use Rattle.convoy_sim.specs.Greatest.{IsUpper}
 use Rattle.convoy_sim.specs.Traffic.{IsTraffic}
 
--- the least and the greatest delay from a sender to a group; what a group sends to itself takes no time
+-- the least and the greatest delay of a message from a sender to a group; what a group sends to itself takes no time without a link
 abbrev pub delays_between : Scenario → Sender → ℕ → ℕ × ℕ
-delays_between scenario sender to = if is_same_sender sender (Group to) then (0, 0) else range_between scenario sender to
+delays_between scenario sender to = if takes_time scenario sender to then range_between scenario sender to else (0, 0)
+
+-- the least and the greatest delay of a stamp from a group to another one; its own takes no time
+abbrev pub stamp_delays : Scenario → ℕ → ℕ → ℕ × ℕ
+stamp_delays scenario from to = if from == to then (0, 0) else range_between scenario (Group from) to
 
 -- the longest way from a sender to group h, and on to group g
 abbrev pub longest_by : Scenario → Sender → ℕ → ℕ → ℕ
-longest_by scenario sender g h = (delays_between scenario sender h).1 + (delays_between scenario (Group h) g).1
+longest_by scenario sender g h = (delays_between scenario sender h).1 + (stamp_delays scenario h g).1
 
 -- the longest from the issue of message m to its commit at group g: the longest way by one of its destinations
 abbrev pub longest_to_commit : Scenario → ℕ → ℕ → ℕ
@@ -65,9 +69,10 @@ travels traffic packet = is_sent traffic packet && not (is_wait packet)
 abbrev pub range_by : Scenario → Scenario → Packet → ℕ × ℕ
 range_by scenario traffic packet = range_between scenario (sender_of traffic packet) (receiver_of packet)
 
--- traffic of a scenario's kinds of messages in ticks so many times as fine: the range of each packet that travels lies within so many times the one that the scenario's links give it, and messages wait for any time
+-- traffic of a scenario's kinds of messages in ticks so many times as fine: the same groups have links to themselves, the range of each packet that travels lies within so many times the one that the scenario's links give it, and messages wait for any time
 pub record IsFinerTrafficOf (times : ℕ) (scenario traffic : Scenario) : Type 0 where
   pub groups : length traffic.groups ≡ length scenario.groups
+  pub home : (g : ℕ) → takes_time traffic (Group g) g ≡ takes_time scenario (Group g) g
   pub kinds : All (IsOfSomeKind scenario) traffic.multicasts
   pub least : (packet : Packet) → IsTrue (travels traffic packet) → times * (range_by scenario traffic packet).0 ≤ (range_of traffic packet).0
   pub most : (packet : Packet) → IsTrue (travels traffic packet) → (range_of traffic packet).1 ≤ times * (range_by scenario traffic packet).1

@@ -7,6 +7,7 @@ ghost use Rattle.convoy_ceiling.specs.Ceiling.{
   ceiling_at,
   ceiling_of,
   delays_between,
+  stamp_delays,
   longest_after,
   longest_by,
   longest_from_arrival,
@@ -92,17 +93,29 @@ fn longest_by(scenario: &Scenario, sender: Sender, group: usize, via: usize) -> 
     ensures fits { result ≤ 2 * u16.MAX }
 {
     let (_, first) = delays_between(scenario, sender, via);
-    let (_, second) = delays_between(scenario, Sender::Group(via), group);
+    let (_, second) = stamp_delays(scenario, via, group);
     u32::from(first) + u32::from(second)
 }
 
-/// The least and the greatest delay from a sender to a group, in ticks; what a group sends to itself takes
-/// no time.
+/// The least and the greatest delay of a message from a sender to a group, in ticks; what a group sends to itself
+/// takes no time, unless it has a link to itself.
 pub fn delays_between(scenario: &Scenario, sender: Sender, to: usize) -> (u16, u16)
     ensures { result ≡ delays_between scenario.now sender to }
 {
-    match sender {
-        Sender::Group(from) if from == to => (0, 0),
-        _ => scenario.range_between(sender, to),
+    if scenario.takes_time(sender, to) {
+        scenario.range_between(sender, to)
+    } else {
+        (0, 0)
+    }
+}
+
+/// The least and the greatest delay of a stamp from a group to another one, in ticks; its own takes no time.
+pub fn stamp_delays(scenario: &Scenario, from: usize, to: usize) -> (u16, u16)
+    ensures { result ≡ stamp_delays scenario.now from to }
+{
+    if from == to {
+        (0, 0)
+    } else {
+        scenario.range_between(Sender::Group(from), to)
     }
 }

@@ -4,7 +4,8 @@
 #![tactic(auto)]
 
 pub use computing::{
-    ceiling, delays_between, goes_to, longest_from_arrival, longest_to_commit, target_ceiling,
+    ceiling, delays_between, goes_to, longest_from_arrival, longest_to_commit, stamp_delays,
+    target_ceiling,
 };
 pub use seeking::{Found, seek_traffic};
 

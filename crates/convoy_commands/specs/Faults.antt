@@ -63,7 +63,6 @@ row_of_scenario scenario.NoDestination = (7, codes "no destination")
 row_of_scenario scenario.DoubleDestination = (8, codes "double destination")
 row_of_scenario scenario.UnknownTarget = (9, codes "unknown target")
 row_of_scenario scenario.TargetNotAddressed = (10, codes "target not addressed")
-row_of_scenario scenario.LinkToItself = (14, codes "link to itself")
 row_of_scenario scenario.NoRange = (20, codes "no range")
 row_of_scenario scenario.Memory = memory_row
 

@@ -495,7 +495,6 @@ pub(crate) fn scenario_row(fault: ScenarioFault) -> (u8, &'static str, FaultEndi
         ScenarioFault::DoubleDestination => (8, "double destination", NOTHING),
         ScenarioFault::UnknownTarget => (9, "unknown target", NOTHING),
         ScenarioFault::TargetNotAddressed => (10, "target not addressed", NOTHING),
-        ScenarioFault::LinkToItself => (14, "link to itself", NOTHING),
         ScenarioFault::NoRange => (20, "no range", NOTHING),
         ScenarioFault::Memory => (11, "out of memory", NOTHING),
     }

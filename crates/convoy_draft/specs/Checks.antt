@@ -3,7 +3,7 @@ use Rattle.std.specs.Prelude.{ℕ, ◌+◌, ℤ, nat_abs, pos, int_le, Bool, tru
 use Rattle.std.specs.List.{list_all, list_any}
 use Rattle.std.specs.Str.{bytes_eq}
 use Rattle.convoy_draft.specs.declared.fault.ScenarioFault.{ScenarioFault}
-use Rattle.convoy_draft.specs.declared.fault.ScenarioFault.TheVariants.{OverLimit, BadName, DoubleName, UnknownGroup, NoDestination, DoubleDestination, UnknownTarget, TargetNotAddressed, LinkToItself}
+use Rattle.convoy_draft.specs.declared.fault.ScenarioFault.TheVariants.{OverLimit, BadName, DoubleName, UnknownGroup, NoDestination, DoubleDestination, UnknownTarget, TargetNotAddressed}
 use Rattle.convoy_draft.specs.declared.fault.Limit.TheVariants.{Delay, Groups, Multicasts, At, Until, Link, Tick}
 use Rattle.convoy_draft.specs.declared.limits.TheConstants.{GREATEST_AT, LONGEST_WAIT, MOST_GROUPS, MOST_MULTICASTS}
 use Rattle.convoy_draft.specs.Draft.{Draft, DraftLink, DraftMessage}
@@ -124,7 +124,6 @@ reference_checks draft =
     ∷ (list_all (λ message. all_differ message.to) draft.messages, DoubleDestination)
     ∷ (is_message draft.target_message draft.messages, UnknownTarget)
     ∷ (is_target_addressed draft, TargetNotAddressed)
-    ∷ (list_all leads_elsewhere draft.links, LinkToItself)
     ∷ []
 
 -- all the rules, in order

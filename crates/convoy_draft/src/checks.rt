@@ -93,9 +93,6 @@ fn check_references(draft: &DraftScenario) -> Result<(), ScenarioFault>
     if !is_target_addressed(draft) {
         return Err(ScenarioFault::TargetNotAddressed);
     }
-    if !all_lead_elsewhere(&draft.links) {
-        return Err(ScenarioFault::LinkToItself);
-    }
     Ok(())
 }
 
@@ -349,10 +346,4 @@ impl DraftLink {
             None => true,
         }
     }
-}
-
-fn all_lead_elsewhere(links: &[DraftLink]) -> bool
-    ensures { result ≡ list_all leads_elsewhere links.now }
-{
-    links.iter().all(|link| link.leads_elsewhere())
 }

@@ -101,9 +101,6 @@ pub enum ScenarioFault {
     /// The target's message does not go to the target's group.
     #[error("the target's message does not go to the target's group")]
     TargetNotAddressed,
-    /// A link leads from a group to that group.
-    #[error("a link leads from a group to itself")]
-    LinkToItself,
     /// In real time something goes from one place to another, and no range is written for it: neither a
     /// link nor the least delay of what goes by none.
     #[error("in real time a packet travels whose range is not written")]

@@ -1,13 +1,14 @@
 -- What the test of a scenario in fine ticks tells.
-use Rattle.std.proofs.Common.{◌≡◌, ℕ, zero, suc, ◌+◌, ◌*◌, ◌==◌, leb, leb-true, Bool, true, false, ◌&&◌, List, [], ◌∷◌, length, get_or, Option, Some, None, is_some, refl, ap, ◌∙◌}
-use Rattle.std.specs.List.{AllZip, list_all, slice_get}
+use Rattle.std.proofs.Common.{◌≡◌, ℕ, zero, suc, ◌+◌, ◌*◌, ◌==◌, leb, leb-true, Bool, true, false, ◌&&◌, List, [], ◌∷◌, length, get_or, Option, Some, None, is_some, inl, inr, refl, sym, ap, ap₂, ◌∙◌}
+use Rattle.std.specs.List.{AllZip, list_all, list_any, slice_get}
 use Rattle.std.specs.Str.{bytes_eq}
-use Rattle.std.proofs.lemmas.Bool.{and_parts, eqb-true, false≢true}
+use Rattle.std.proofs.lemmas.Bool.{and_parts, both_ways, cases_Bool, eq-eqb, eqb-true, false≢true, false_from_ne_true}
 use Rattle.convoy_draft.specs.declared.time.Time.{Time}
 use Rattle.convoy_draft.specs.declared.time.Time.TheVariants.{Ticks, Real}
 use Rattle.convoy_scenario.specs.declared.sender.Sender.{Sender}
 use Rattle.convoy_scenario.specs.declared.sender.Sender.TheVariants.{Client, Group}
-use Rattle.convoy_scenario.specs.Scenario.{Message, Scenario, is_same_sender, no_message}
+use Rattle.convoy_scenario.specs.Scenario.{Link, Message, Scenario, is_same_sender, link_between, message_at, no_message, takes_time}
+use Rattle.convoy_scenario.proofs.TakingTime.{same_takes}
 use Rattle.convoy_scenario.specs.WellFormed.{IsScenario}
 use Rattle.convoy_packets.specs.declared.packet.Packet.{Packet}
 use Rattle.convoy_packets.specs.declared.packet.Packet.TheVariants.{Wait, Multicast, Propose}
@@ -17,7 +18,7 @@ use Rattle.convoy_packets.specs.ScheduleLaws.{is_sent}
 use Rattle.convoy_packets.proofs.Places.{stands_where_found}
 use Rattle.convoy_packets.proofs.Sent.{found_if_sent}
 use Rattle.convoy_laws.specs.FinerTicks.{IsFiner, IsFinerMessage, IsInRange}
-use Rattle.convoy_fits.specs.Finer.{are_finer_messages, has_finer_range, is_finer, is_finer_message, is_real}
+use Rattle.convoy_fits.specs.Finer.{all_take_time, are_finer_messages, has_finer_range, have_same_homes, is_finer, is_finer_message, is_real}
 use Rattle.convoy_fits.specs.Runs.{IsRealRun}
 
 real_is : (t : Time) → is_real t ≡ true → t ≡ Real
@@ -72,10 +73,45 @@ like_at factor (x ∷ ms) [] m h = absurd h
 like_at factor (x ∷ ms) (f ∷ fs) zero h = (h.0.sender, h.0.destinations)
 like_at factor (x ∷ ms) (f ∷ fs) (suc m) h = like_at factor ms fs m h.1
 
-module _ (factor : ℕ) (scenario finer : Scenario) (messages : AllZip (IsFinerMessage factor) scenario.multicasts finer.multicasts) where
+-- a message is a packet of both, or of none
+pub sent_too : (factor : ℕ) (scenario finer : Scenario) → AllZip (IsFinerMessage factor) scenario.multicasts finer.multicasts
+    → ((g : ℕ) → takes_time finer (Group g) g ≡ takes_time scenario (Group g) g) → (m g : ℕ) → is_sent finer (Multicast m g) ≡ is_sent scenario (Multicast m g)
+sent_too factor scenario finer messages home m g =
+    let l = like_at factor scenario.multicasts finer.multicasts m messages in
+    ap₂ (λ a b. a && b) (ap (λ (hs : List ℕ). list_any (λ h. h == g) hs) l.1)
+    (same_takes scenario finer home (message_at finer m).sender g ∙ ap (λ (sender : Sender). takes_time scenario sender g) l.0)
+
+-- ---- links from a group to itself
+
+-- where what goes by any link of the one scenario takes time in the other, a group with a link to itself has one there
+home_there : (scenario other : Scenario) (g : ℕ) → all_take_time other scenario.links ≡ true → takes_time scenario (Group g) g ≡ true → takes_time other (Group g) g ≡ true
+home_there scenario other g all takes = of_links scenario.links all (rw (eq-eqb g g refl) at takes) where
+  of_links : (links : List Link) → all_take_time other links ≡ true → is_some (link_between links (Group g) g) ≡ true → takes_time other (Group g) g ≡ true
+  of_links [] all some = absurd (false≢true some)
+  of_links (link ∷ links) all some =
+      let parts = and_parts (takes_time other link.sender link.to) (all_take_time other links) all in
+      elim (cases_Bool (is_same_sender (Group g) link.sender && (g == link.to))) [
+        | inl here ↦
+            let ends = and_parts (is_same_sender (Group g) link.sender) (g == link.to) here in
+            let from : Group g ≡ link.sender = same_senders (Group g) link.sender ends.0 in
+            let there : g ≡ link.to = eqb-true g link.to ends.1 in
+            ap₂ (λ (sender : Sender) (to : ℕ). takes_time other sender to) from there ∙ parts.0
+        | inr away ↦ of_links links parts.1 (rw away at some)
+      ]
+
+same_home : (scenario finer : Scenario) → have_same_homes scenario finer ≡ true → (g : ℕ) → takes_time finer (Group g) g ≡ takes_time scenario (Group g) g
+same_home scenario finer e g =
+    let parts = and_parts (all_take_time scenario finer.links) (all_take_time finer scenario.links) e in
+    elim (cases_Bool (takes_time scenario (Group g) g)) [
+      | inl takes ↦ home_there scenario finer g parts.1 takes ∙ sym takes
+      | inr none ↦ false_from_ne_true _ (λ takes. both_ways _ none (home_there finer scenario g parts.0 takes)) ∙ sym none
+    ]
+
+module _ (factor : ℕ) (scenario finer : Scenario) (messages : AllZip (IsFinerMessage factor) scenario.multicasts finer.multicasts)
+    (home : (g : ℕ) → takes_time finer (Group g) g ≡ takes_time scenario (Group g) g) where
   sent_same : (packet : Packet) → is_wait packet ≡ false → is_sent scenario packet ≡ true → is_sent finer packet ≡ true
   sent_same (Wait m) travels e = absurd cc
-  sent_same (Multicast m g) travels e = let l = like_at factor scenario.multicasts finer.multicasts m messages in rw (l.0, l.1) e
+  sent_same (Multicast m g) travels e = sent_too factor scenario finer messages home m g ∙ e
   sent_same (Propose m h g) travels e = let l = like_at factor scenario.multicasts finer.multicasts m messages in rw l.1 e
 
 some_is : (o : Option ℕ) → is_some o ≡ true → (i : ℕ) × (o ≡ Some i)
@@ -99,45 +135,49 @@ range_in factor scenario finer packet all sent =
     let p = and_parts (leb (factor * (range_of scenario packet).0) (range_of finer packet).0) (leb (range_of finer packet).1 (factor * (range_of scenario packet).1)) e in
     (leb-true _ _ p.0, leb-true _ _ p.1)
 
-all_parts : (a b c d e f g h : Bool) → (a && b && c && d && e && f && g && h) ≡ true
-    → (a ≡ true) × (b ≡ true) × (c ≡ true) × (d ≡ true) × (e ≡ true) × (f ≡ true) × (g ≡ true) × (h ≡ true)
-all_parts a b c d e f g h holds =
-    let p7 = and_parts (a && b && c && d && e && f && g) h holds in
+all_parts : (a b c d e f g h i : Bool) → (a && b && c && d && e && f && g && h && i) ≡ true
+    → (a ≡ true) × (b ≡ true) × (c ≡ true) × (d ≡ true) × (e ≡ true) × (f ≡ true) × (g ≡ true) × (h ≡ true) × (i ≡ true)
+all_parts a b c d e f g h i holds =
+    let p8 = and_parts (a && b && c && d && e && f && g && h) i holds in
+    let p7 = and_parts (a && b && c && d && e && f && g) h p8.0 in
     let p6 = and_parts (a && b && c && d && e && f) g p7.0 in
     let p5 = and_parts (a && b && c && d && e) f p6.0 in
     let p4 = and_parts (a && b && c && d) e p5.0 in
     let p3 = and_parts (a && b && c) d p4.0 in
     let p2 = and_parts (a && b) c p3.0 in
     let p1 = and_parts a b p2.0 in
-    (p1.0, p1.1, p2.1, p3.1, p4.1, p5.1, p6.1, p7.1)
+    (p1.0, p1.1, p2.1, p3.1, p4.1, p5.1, p6.1, p7.1, p8.1)
 
 module _ (factor : ℕ) (scenario finer : Scenario) (holds : is_finer factor scenario finer ≡ true) where
   parts : (is_real finer.time ≡ true) × (leb 1 factor ≡ true) × ((length finer.groups == length scenario.groups) ≡ true)
       × ((length finer.multicasts == length scenario.multicasts) ≡ true) × (are_finer_messages factor scenario.multicasts finer.multicasts ≡ true)
+      × (have_same_homes scenario finer ≡ true)
       × (list_all (has_finer_range factor scenario finer) (packets_of finer) ≡ true) × ((finer.target_message == scenario.target_message) ≡ true)
       × ((finer.target_group == scenario.target_group) ≡ true)
   parts =
       all_parts (is_real finer.time) (leb 1 factor) (length finer.groups == length scenario.groups) (length finer.multicasts == length scenario.multicasts)
-      (are_finer_messages factor scenario.multicasts finer.multicasts) (list_all (has_finer_range factor scenario finer) (packets_of finer))
+      (are_finer_messages factor scenario.multicasts finer.multicasts) (have_same_homes scenario finer) (list_all (has_finer_range factor scenario finer) (packets_of finer))
       (finer.target_message == scenario.target_message) (finer.target_group == scenario.target_group) holds
 
   pub time_is_real : finer.time ≡ Real
   time_is_real = real_is finer.time parts.0
 
   pub target_message_kept : finer.target_message ≡ scenario.target_message
-  target_message_kept = eqb-true finer.target_message scenario.target_message parts.6
+  target_message_kept = eqb-true finer.target_message scenario.target_message parts.7
 
   pub target_group_kept : finer.target_group ≡ scenario.target_group
-  target_group_kept = eqb-true finer.target_group scenario.target_group parts.7
+  target_group_kept = eqb-true finer.target_group scenario.target_group parts.8
 
   pub finer_from : IsFiner factor scenario finer
   finer_from =
       let zipped = finer_messages factor scenario.multicasts finer.multicasts parts.4 in
+      let home = same_home scenario finer parts.5 in
       record {
         some = leb-true 1 factor parts.1;
         groups = eqb-true (length finer.groups) (length scenario.groups) parts.2;
         messages = zipped;
-        ranges = λ packet sent travels. range_in factor scenario finer packet parts.5 (sent_same factor scenario finer zipped packet travels sent);
+        home = home;
+        ranges = λ packet sent travels. range_in factor scenario finer packet parts.6 (sent_same factor scenario finer zipped home packet travels sent);
         target_message = target_message_kept;
         target_group = target_group_kept;
       }

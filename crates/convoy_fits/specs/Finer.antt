@@ -4,7 +4,7 @@ use Rattle.std.specs.List.{list_all}
 use Rattle.std.specs.Str.{bytes_eq}
 use Rattle.convoy_draft.specs.declared.time.Time.{Time}
 use Rattle.convoy_draft.specs.declared.time.Time.TheVariants.{Ticks, Real}
-use Rattle.convoy_scenario.specs.Scenario.{Message, Scenario, is_same_sender}
+use Rattle.convoy_scenario.specs.Scenario.{Link, Message, Scenario, is_same_sender, takes_time}
 use Rattle.convoy_packets.specs.declared.packet.Packet.{Packet}
 use Rattle.convoy_packets.specs.Packets.{packets_of}
 use Rattle.convoy_packets.specs.Assignment.{range_of}
@@ -26,6 +26,14 @@ are_finer_messages factor [] (other ∷ others) = false
 are_finer_messages factor (message ∷ messages) [] = false
 are_finer_messages factor (message ∷ messages) (other ∷ others) = is_finer_message factor message other && are_finer_messages factor messages others
 
+-- what goes by any of these links takes time in the scenario, too: a group that has one to itself has one there
+abbrev pub all_take_time : Scenario → List Link → Bool
+all_take_time scenario links = list_all (λ link. takes_time scenario link.sender link.to) links
+
+-- the same groups have links to themselves
+abbrev pub have_same_homes : Scenario → Scenario → Bool
+have_same_homes scenario finer = all_take_time scenario finer.links && all_take_time finer scenario.links
+
 -- a packet may take no time in fine ticks that it may not take in ticks
 abbrev pub has_finer_range : ℕ → Scenario → Scenario → Packet → Bool
 has_finer_range factor scenario finer packet =
@@ -37,5 +45,6 @@ is_finer factor scenario finer =
     is_real finer.time && nat_le 1 factor && (length finer.groups == length scenario.groups)
     && (length finer.multicasts == length scenario.multicasts)
     && are_finer_messages factor scenario.multicasts finer.multicasts
+    && have_same_homes scenario finer
     && list_all (has_finer_range factor scenario finer) (packets_of finer)
     && (finer.target_message == scenario.target_message) && (finer.target_group == scenario.target_group)

@@ -9,7 +9,7 @@ use convoy_scenario::lookup::window;
 use convoy_scenario::naming::{
     draft_destinations, draft_group, draft_groups, draft_sender, message_name,
 };
-use convoy_scenario::{GREATEST_AT, Scenario, Sender, is_same_sender};
+use convoy_scenario::{GREATEST_AT, Scenario, Sender};
 use convoy_traces::{Event, Told};
 use std::alloc::Global;
 
@@ -30,7 +30,7 @@ fn latest_issue(scenario: &Scenario, trace: &Corrected, message: usize, last: i6
 /// When at the latest a message was issued that arrives then.
 fn issued_before(scenario: &Scenario, trace: &Corrected, one: &Told, to: usize) -> i64 {
     let sender = convoy_scenario::lookup::sender_of(scenario, one.message);
-    if is_same_sender(sender, Sender::Group(to)) {
+    if !scenario.takes_time(sender, to) {
         return i64::from(one.time);
     }
     let (least, _) = scenario.range_between(sender, to);
@@ -98,7 +98,7 @@ fn fine_link(
     })
 }
 
-/// Appends the links from a sender to all other groups. Fails where memory runs out, and else never.
+/// Appends the links from a sender to all other groups, and to itself where it has one. Fails where memory runs out, and else never.
 fn push_links(
     alloc: Global,
     scenario: &Scenario,
@@ -107,15 +107,15 @@ fn push_links(
     links: &mut Vec<DraftLink>,
 ) -> AllocResult<()> {
     for to in 0..scenario.group_count() {
-        if !is_same_sender(sender, Sender::Group(to)) {
+        if scenario.takes_time(sender, to) {
             links.push(fine_link(alloc, scenario, factor, sender, to)?)?;
         }
     }
     Ok(())
 }
 
-/// The links of the scenario in fine ticks: one from each sender to each group. Fails where memory runs out, and else
-/// never.
+/// The links of the scenario in fine ticks: one from each sender to each other group, and one from a group to itself where
+/// it has one. Fails where memory runs out, and else never.
 fn fine_links(alloc: Global, scenario: &Scenario, factor: u16) -> AllocResult<Vec<DraftLink>> {
     let mut links = Vec::new(alloc);
     push_links(alloc, scenario, factor, Sender::Client, &mut links)?;

@@ -5,14 +5,14 @@ ghost use Rattle.std.specs.List.{list_all};
 ghost use Rattle.std.specs.Str.{bytes_eq};
 ghost use Rattle.convoy_scenario.specs.Scenario.{message_at};
 ghost use Rattle.convoy_packets.specs.Packets.{packets_of};
-ghost use Rattle.convoy_fits.specs.Finer.{are_finer_messages, has_finer_range, is_finer, is_finer_message, is_real};
+ghost use Rattle.convoy_fits.specs.Finer.{all_take_time, are_finer_messages, has_finer_range, have_same_homes, is_finer, is_finer_message, is_real};
 ghost use Rattle.convoy_fits.specs.Runs.{goes_there, is_there};
 
 use super::corrected::Corrected;
 use super::fine_draft::fine_draft;
 use super::network::{is_addressed, range_of};
 use convoy_packets::{Instance, Packet};
-use convoy_scenario::{Scenario, Time, is_same_sender};
+use convoy_scenario::{Link, Scenario, Time, is_same_sender};
 use convoy_traces::{Event, Told};
 use std::alloc::{AllocError, Global};
 
@@ -63,6 +63,22 @@ fn are_finer_messages(factor: u16, scenario: &Scenario, finer: &Instance) -> boo
     true
 }
 
+/// Whether what goes by any of these links takes time in the scenario, too.
+fn all_take_time(scenario: &Scenario, links: &[Link]) -> bool
+    ensures { result ≡ all_take_time scenario.now links.now }
+{
+    links
+        .iter()
+        .all(|link| scenario.takes_time(link.sender, link.to))
+}
+
+/// Whether the same groups have links to themselves in both.
+fn have_same_homes(scenario: &Scenario, finer: &Scenario) -> bool
+    ensures { result ≡ have_same_homes scenario.now finer.now }
+{
+    all_take_time(scenario, finer.links()) && all_take_time(finer, scenario.links())
+}
+
 /// Whether a packet may take no time in fine ticks that it may not take in ticks.
 fn has_finer_range(factor: u16, scenario: &Scenario, finer: &Instance, packet: Packet) -> bool
     ensures { result ≡ has_finer_range factor scenario.now finer.now packet }
@@ -96,6 +112,7 @@ fn is_finer(factor: u16, scenario: &Scenario, finer: &Instance) -> bool
         && finer.group_count() == scenario.group_count()
         && finer.message_count() == scenario.message_count()
         && are_finer_messages(factor, scenario, finer)
+        && have_same_homes(scenario, finer.scenario())
         && have_finer_ranges(factor, scenario, finer)
         && finer.target_message() == scenario.target_message()
         && finer.target_group() == scenario.target_group()

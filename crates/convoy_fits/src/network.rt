@@ -15,7 +15,7 @@ use super::teller::{is_same_teller, teller_of};
 use super::told_times::time_told;
 use convoy_packets::Packet;
 use convoy_scenario::lookup::{longest_wait, may_wait, sender_of, window};
-use convoy_scenario::{Scenario, Sender, is_same_sender};
+use convoy_scenario::{Scenario, Sender};
 use convoy_traces::{Event, Told};
 
 /// A range in fine ticks.
@@ -41,7 +41,7 @@ fn is_sent(scenario: &Scenario, packet: Packet) -> bool
         Packet::Wait { message } => may_wait(scenario, message),
         Packet::Multicast { message, to } => {
             is_addressed(scenario, message, to)
-                && !is_same_sender(sender_of(scenario, message), Sender::Group(to))
+                && scenario.takes_time(sender_of(scenario, message), to)
         }
         Packet::Propose { message, from, to } => {
             is_addressed(scenario, message, from)
@@ -65,7 +65,8 @@ pub(crate) fn range_of(scenario: &Scenario, packet: Packet) -> (u16, u16)
     }
 }
 
-/// What a packet may take, in fine ticks; what a place sends itself takes no time.
+/// What a packet may take, in fine ticks; what a group sends itself takes no time, unless it is a message and the group has
+/// a link to itself.
 pub(crate) fn fine_range(factor: u16, scenario: &Scenario, packet: Packet) -> (u64, u64)
     ensures { result ≡ fine_range factor scenario.now packet }
 {

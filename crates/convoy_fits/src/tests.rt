@@ -1,7 +1,7 @@
 //! Worked traces of the base example of docs/PROTOCOL.md, in real time: t is delivered at a at tick 12.
 
 use super::{Departure, Verdict, judge};
-use convoy_scenario::{MessageParts, Scenario, ScenarioParts, Time};
+use convoy_scenario::{LinkParts, MessageParts, Scenario, ScenarioParts, Time};
 use convoy_traces::{Clock, Event, trace_of_text};
 use std::alloc::Global;
 use std::test::Fail;
@@ -54,17 +54,28 @@ const WORST: &str = "event,message,group,from,time,stamp\n\
     commit,t,a,,6,2.b\ncommit,y,a,,12,3.b\n\
     delivery,x,b,,3,1.b\ndelivery,t,b,,6,2.b\ndelivery,y,b,,9,3.b\n";
 
-/// What is judged of a run with these lines below, by clocks that are right within the skew.
+/// What is judged of a run of the base example with these lines below, by clocks that are right within the skew.
 fn judged(alloc: Global, run: &str, lines: &str, skew: u32) -> Result<Verdict, Fail> {
     let scenario = base(alloc)?;
+    judged_in(alloc, &scenario, run, lines, skew)
+}
+
+/// The same of a run of another scenario.
+fn judged_in(
+    alloc: Global,
+    scenario: &Scenario,
+    run: &str,
+    lines: &str,
+    skew: u32,
+) -> Result<Verdict, Fail> {
     let clock = Clock {
         tick: 1_000_000_000,
         unit: None,
     };
     let mut text = String::from_str(alloc, run)?;
     text.push_str(lines)?;
-    let trace = trace_of_text(alloc, &scenario, clock, text.as_str().as_bytes())?;
-    Ok(judge(alloc, &scenario, &trace, skew)?)
+    let trace = trace_of_text(alloc, scenario, clock, text.as_str().as_bytes())?;
+    Ok(judge(alloc, scenario, &trace, skew)?)
 }
 
 #[test]
@@ -121,5 +132,52 @@ fn delivery_before_a_lesser_stamp_departs(rt: HostRuntime) -> Result<(), Fail> {
         _ => false,
     };
     assert!(rt; departs);
+    Ok(())
+}
+
+/// A group sends itself m at tick 0, and has a link to itself of 2 to 3 ticks.
+fn own_message(alloc: Global) -> Result<Scenario, Fail> {
+    let parts = ScenarioParts {
+        time: Time::Real,
+        tick: None,
+        delay: 3,
+        groups: &["a"],
+        links: &[LinkParts {
+            sender: Some("a"),
+            to: "a",
+            least: 2,
+            most: 3,
+        }],
+        messages: &[MessageParts {
+            name: "m",
+            sender: Some("a"),
+            to: &["a"],
+            at: 0,
+            until: 0,
+        }],
+        target_message: "m",
+        target_group: "a",
+    };
+    Ok(Scenario::new(alloc, &parts)?)
+}
+
+/// Its issue; the arrival, the commit and the delivery of m come below.
+const OWN: &str = "event,message,group,from,time,stamp\nissue,m,,,0,\n";
+
+#[test]
+fn own_message_by_a_link_fits_in_its_range(rt: HostRuntime) -> Result<(), Fail> {
+    let scenario = own_message(rt.alloc())?;
+    let lines = "arrival,m,a,,2,1.a\ncommit,m,a,,2,1.a\ndelivery,m,a,,2,1.a\n";
+    let verdict = judged_in(rt.alloc(), &scenario, OWN, lines, 0)?;
+    assert!(rt; matches!(&verdict, Verdict::Fits(Some(2))));
+    Ok(())
+}
+
+#[test]
+fn own_message_by_a_link_departs_at_once(rt: HostRuntime) -> Result<(), Fail> {
+    let scenario = own_message(rt.alloc())?;
+    let lines = "arrival,m,a,,0,1.a\ncommit,m,a,,0,1.a\ndelivery,m,a,,0,1.a\n";
+    let verdict = judged_in(rt.alloc(), &scenario, OWN, lines, 0)?;
+    assert!(rt; matches!(&verdict, Verdict::Outside(Departure::Packet(_, 0, 0, 2, 3))));
     Ok(())
 }

@@ -227,16 +227,3 @@ fn hint_for_elsewhere(
     let (group, to) = (Quoted(group), Names(to));
     format!(in alloc; "{place} asks for {part} at {group}, and it goes to {to} alone")
 }
-
-/// Which link leads to its own sender.
-pub(crate) fn hint_for_link_to_itself(alloc: Global, sketch: &Sketch<'_>) -> Hint {
-    for (link, part) in sketch.draft.links.iter().zip(&sketch.links) {
-        if !link.leads_elsewhere() {
-            let to = Quoted(link.to.as_str());
-            return format!(in alloc;
-                "{part} leads from {to} to {to}: what a group sends to itself is no packet"
-            ).map(Some);
-        }
-    }
-    Ok(None)
-}

@@ -4,8 +4,8 @@ use super::names::{hint_for_bad_name, hint_for_double_name};
 use super::numbers::{hint_for_least_of_all, hint_for_limit, hint_for_many_links};
 use super::ranges::hint_for_no_range;
 use super::references::{
-    hint_for_double_destination, hint_for_link_to_itself, hint_for_no_destination,
-    hint_for_target_not_addressed, hint_for_unknown_group, hint_for_unknown_target,
+    hint_for_double_destination, hint_for_no_destination, hint_for_target_not_addressed,
+    hint_for_unknown_group, hint_for_unknown_target,
 };
 use super::spans::{hint_for_long_span, hint_for_span};
 use convoy_certificate::{Form, form_of};
@@ -324,7 +324,6 @@ pub fn hint_for_sketch(alloc: Global, sketch: &Sketch<'_>, fault: ScenarioFault)
         ScenarioFault::DoubleDestination => hint_for_double_destination(alloc, sketch),
         ScenarioFault::UnknownTarget => hint_for_unknown_target(alloc, sketch),
         ScenarioFault::TargetNotAddressed => hint_for_target_not_addressed(alloc, sketch),
-        ScenarioFault::LinkToItself => hint_for_link_to_itself(alloc, sketch),
         ScenarioFault::NotToml
         | ScenarioFault::Shape(_)
         | ScenarioFault::NotWhole(_)

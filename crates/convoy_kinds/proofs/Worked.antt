@@ -88,6 +88,22 @@ x_beside_y : ceiling_of (pair_of kinds 0 2 1) ≡ 5
 unfolding kinds base_with message ceiling_at ceiling_of
 x_beside_y = refl
 
+-- with a link from a to itself y comes to a later than it is issued, so t waits longest for another of its own kind there
+unfoldable with_home : Kinds
+with_home = record kinds { setting = record (base_with 3 6) { links = record { sender = Group 0; to = 0; least = 2; most = 3 } ∷ [] } }
+
+home_t_at_a : ceiling_of_kind with_home 1 0 ≡ 11
+unfolding with_home kinds base_with message ceiling_at ceiling_of ceiling_of_kind
+home_t_at_a = refl
+
+home_y_at_a : ceiling_of_kind with_home 2 0 ≡ 11
+unfolding with_home kinds base_with message ceiling_at ceiling_of ceiling_of_kind
+home_y_at_a = refl
+
+home_at_a : rival_at with_home 0 ≡ 1
+unfolding with_home kinds base_with message rival_at
+home_at_a = refl
+
 rows : kind_targets kinds ≡ (0, 1) ∷ (1, 0) ∷ (1, 1) ∷ (2, 0) ∷ (2, 1) ∷ []
 unfolding kinds base_with message
 rows = refl

@@ -1,13 +1,12 @@
 //! How long messages of a kind take to their commit, and which of those that go to a group may take longest there.
 
 ghost use Rattle.std.specs.Prelude.{◌≡◌, ◌≤◌, ◌*◌, ◌<◌, length};
-ghost use Rattle.convoy_scenario.specs.declared.sender.Sender.TheVariants.{Group};
 ghost use Rattle.convoy_ceiling.specs.Ceiling.{longest_after, longest_by, longest_from_arrival, longest_to_commit};
 ghost use Rattle.convoy_kinds.specs.Ceilings.{IsSlowest, rival_at};
 ghost use Rattle.convoy_kinds.specs.Kinds.{IsKinds, all_kinds};
 
 use super::kinds::Kinds;
-use convoy_ceiling::delays_between;
+use convoy_ceiling::{delays_between, stamp_delays};
 use convoy_scenario::Sender;
 
 /// Which messages are committed longest after their arrival at a group.
@@ -90,6 +89,6 @@ fn longest_by(kinds: &Kinds, sender: Sender, group: usize, via: usize) -> u32
     ensures fits { result ≤ 2 * u16.MAX }
 {
     let (_, first) = delays_between(kinds.setting(), sender, via);
-    let (_, second) = delays_between(kinds.setting(), Sender::Group(via), group);
+    let (_, second) = stamp_delays(kinds.setting(), via, group);
     u32::from(first) + u32::from(second)
 }

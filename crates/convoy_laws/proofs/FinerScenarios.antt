@@ -1,8 +1,8 @@
 -- A draft, with a least delay of what goes by no link, and the same in ticks so many times as fine: the scenario is one, told in ticks and in finer ones.
-use Rattle.std.proofs.Common.{◌≡◌, ℕ, zero, suc, ◌+◌, ◌*◌, ◌&&◌, ◌≤◌, ℤ, pos, negsuc, int_le, leb, leb-true, eq-eqb, Bool, true, false, not, cond, List, [], ◌∷◌, ◌++◌, map, take, get_or, inl, inr, Option, Some, None, is_some, option_map, Ok, Err, refl, sym, ap, subst, ◌∙◌, arith}
+use Rattle.std.proofs.Common.{◌≡◌, ℕ, zero, suc, ◌+◌, ◌*◌, ◌==◌, ◌&&◌, ◌||◌, ◌≤◌, ℤ, pos, negsuc, int_le, leb, leb-true, eq-eqb, Bool, true, false, not, cond, List, [], ◌∷◌, ◌++◌, map, take, get_or, inl, inr, Option, Some, None, is_some, option_map, Ok, Err, refl, sym, ap, subst, ◌∙◌, arith}
 use Rattle.std.specs.List.{AllZip, find, list_all, list_any, position_or_len}
 use Rattle.std.specs.Str.{bytes_eq}
-use Rattle.std.proofs.lemmas.Bool.{and_parts, cases_Bool, false≢true}
+use Rattle.std.proofs.lemmas.Bool.{and_parts, cases_Bool, false≢true, not-true}
 use Rattle.std.proofs.lemmas.List.{length-map}
 use Rattle.std.proofs.lemmas.List.Folds.{list_all-append}
 use Rattle.convoy_draft.specs.declared.fault.ScenarioFault.{ScenarioFault}
@@ -14,12 +14,12 @@ use Rattle.convoy_draft.specs.Checks.{checks, has_range, is_within, judge, ticks
 use Rattle.convoy_draft.specs.Draft.{Draft, DraftLink, DraftMessage}
 use Rattle.convoy_scenario.specs.declared.sender.Sender.{Sender}
 use Rattle.convoy_scenario.specs.declared.sender.Sender.TheVariants.{Client, Group}
-use Rattle.convoy_scenario.specs.ScenarioLaws.{OrderKeepsRanges}
+use Rattle.convoy_scenario.specs.ScenarioLaws.{OrderKeepsRanges, OrderKeepsWhatTakesTime}
 use Rattle.convoy_scenario.specs.Numbering.{link_of, message_place, place, scenario_of, scenario_of_draft, sender_of}
 use Rattle.convoy_scenario.specs.Room.{has_room}
 use Rattle.convoy_scenario.proofs.GivenScenarios.{given}
-use Rattle.convoy_scenario.specs.Scenario.{Link, Message, Scenario, is_same_sender, message_at, no_message, range_between}
-use Rattle.convoy_scenario.proofs.KeptRanges.{leads, range_found}
+use Rattle.convoy_scenario.specs.Scenario.{Link, Message, Scenario, is_addressed, is_same_sender, message_at, no_message, range_between, takes_time}
+use Rattle.convoy_scenario.proofs.KeptRanges.{leads, one_sender, range_found}
 use Rattle.convoy_scenario.proofs.NumberedLemmas.{Passes, passes}
 use Rattle.convoy_packets.specs.declared.packet.Packet.TheVariants.{Wait, Multicast, Propose}
 use Rattle.convoy_packets.specs.Assignment.{range_of}
@@ -29,6 +29,7 @@ use Rattle.convoy_toml.specs.Ways.{Way, carries, has_ranges, link_along, ways_be
 use Rattle.convoy_toml.proofs.FinerDrafts.{finer_link, finer_message, finer_ticks}
 use Rattle.convoy_laws.specs.FinerTicks.{AreSameRanges, IsFiner, IsFinerMessage, IsInRange, finer_range}
 use Rattle.convoy_laws.proofs.FinerRanges.{AreAsFine, IsAsFine, as_fine, found_after, found_before, found_finer, lacks, links_finer, messages_finer, none_lacks, none_leads, some_carry, some_lead, ticks_finer, within_from}
+use Rattle.convoy_laws.proofs.HomeLinks.{home_as_written}
 use Rattle.convoy_laws.proofs.Travelled.{Goes, goes}
 
 -- a draft in ticks so many times as fine, of this length
@@ -191,7 +192,12 @@ pub record AreRead (times tick : ℕ) (plain : Draft) (least : Option ℤ) : Typ
   pub room : has_room (scenario_of (record plain { links = (with_least least plain).links })) ≡ true
   pub fine_room : has_room (scenario_of (record (finer_draft times tick plain) { links = (with_least (option_map (finer_ticks times) least) (finer_draft times tick plain)).links })) ≡ true
 
-module _ (keeps : OrderKeepsRanges) (times tick : ℕ) (plain : Draft) (least : Option ℤ) (are : AreRead times tick plain least) where
+-- what a link is told as in finer ticks is there just where it is
+is_some_finer : (times : ℕ) (link : Option Link) → is_some (option_map (as_fine times) link) ≡ is_some link
+is_some_finer times None = refl
+is_some_finer times (Some link) = refl
+
+module _ (keeps : OrderKeepsRanges) (takes : OrderKeepsWhatTakesTime) (times tick : ℕ) (plain : Draft) (least : Option ℤ) (are : AreRead times tick plain least) where
   abbrev draft : Draft
   draft = record plain { links = (with_least least plain).links }
 
@@ -246,19 +252,60 @@ module _ (keeps : OrderKeepsRanges) (times tick : ℕ) (plain : Draft) (least : 
       subst (λ (g : ℕ). range_between finer from g ≡ finer_range times (range_between scenario from g)) trip.there here in
       subst (λ (s : Sender). range_between finer s to ≡ finer_range times (range_between scenario s to)) trip.from at_group
 
+  -- ---- links from a group to itself
+
+  -- the one that is found is one that is written, in ticks and in finer ones
+  abbrev home : Draft → ℕ → Option Link
+  home written g = find (leads (Group g) g) (map (link_of written.groups) written.links)
+
+  home_finer : (g : ℕ) → home fine_draft g ≡ option_map (as_fine times) (home draft g)
+  home_finer g =
+      home_as_written (option_map (finer_ticks times) least) (finer_draft times tick plain) g passed_there.ends
+      ∙ found_finer times plain.groups (Group g) g plain.links all_as_fine
+      ∙ ap (option_map (as_fine times)) (sym (home_as_written least plain g passed_here.ends))
+
+  same_home : (g : ℕ) → takes_time finer (Group g) g ≡ takes_time scenario (Group g) g
+  same_home g =
+      takes fine_draft finer (Group g) g given_there
+      ∙ ap (λ some. not (g == g) || some) (ap is_some (home_finer g) ∙ is_some_finer times (home draft g))
+      ∙ sym (takes draft scenario (Group g) g given_here)
+
+  home_range : (g : ℕ) → takes_time scenario (Group g) g ≡ true → range_between finer (Group g) g ≡ finer_range times (range_between scenario (Group g) g)
+  home_range g travels = by_link (home draft g) refl where
+    by_link : (link : Option Link) → home draft g ≡ link → range_between finer (Group g) g ≡ finer_range times (range_between scenario (Group g) g)
+    by_link None none =
+        let never : (not (g == g) || false) ≡ true =
+        ap (λ some. not (g == g) || is_some some) (sym none) ∙ sym (takes draft scenario (Group g) g given_here) ∙ travels in
+        absurd (false≢true (rw (eq-eqb g g refl) at never))
+    by_link (Some link) found =
+        keeps fine_draft finer (Group g) g given_there
+        ∙ ap (range_found (ticks GREATEST_DELAY fine_draft.delay)) (home_finer g ∙ ap (option_map (as_fine times)) found)
+        ∙ ap (finer_range times) (sym (keeps draft scenario (Group g) g given_here ∙ ap (range_found (ticks GREATEST_DELAY draft.delay)) found))
+
   pub same_ranges : AreSameRanges times scenario finer
   same_ranges (Wait m) sent =
       let none : 0 ≡ times * 0 = omega arith in
       ap (λ (n : ℕ). (0, n)) (same_message m).wait ∙ ap (λ (n : ℕ). (n, times * (message_at scenario m).longest_wait)) none
   same_ranges (Multicast m g) sent =
-      ap (λ (s : Sender). range_between finer s g) (same_message m).sender ∙ between_same (message_at scenario m).sender g (goes draft passed_here (Multicast m g) refl sent)
-  same_ranges (Propose m h g) sent = between_same (Group h) g (goes draft passed_here (Propose m h g) refl sent)
+      let sender : Sender = (message_at scenario m).sender in
+      ap (λ (s : Sender). range_between finer s g) (same_message m).sender ∙ elim (cases_Bool (is_same_sender sender (Group g))) [
+        | inl itself ↦
+            let from : sender ≡ Group g = one_sender sender (Group g) itself in
+            let travels : takes_time scenario sender g ≡ true = (and_parts (is_addressed (message_at scenario m) g) (takes_time scenario sender g) sent).1 in
+            subst (λ (s : Sender). range_between finer s g ≡ finer_range times (range_between scenario s g)) (sym from)
+            (home_range g (subst (λ (s : Sender). takes_time scenario s g ≡ true) from travels))
+        | inr away ↦ between_same sender g (goes draft passed_here (Multicast m g) refl sent away)
+      ]
+  same_ranges (Propose m h g) sent =
+      let parts = and_parts (is_addressed (message_at scenario m) h && is_addressed (message_at scenario m) g) (not (h == g)) sent in
+      between_same (Group h) g (goes draft passed_here (Propose m h g) refl sent (not-true (h == g) parts.1))
 
   pub is_finer : IsFiner times scenario finer
   is_finer = record {
     some = are.some;
     groups = refl;
     messages = finer_messages times scenario.multicasts finer.multicasts zipped;
+    home = same_home;
     ranges = λ packet sent travels. in_range (range_of scenario packet) (range_of finer packet) (same_ranges packet sent);
     target_message = place_finer times plain.target_message plain.messages;
     target_group = refl;

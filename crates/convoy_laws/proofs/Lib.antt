@@ -24,6 +24,7 @@ pub mod IssueTimes
 pub mod Stretched
 pub mod Travelled
 pub mod FinerRanges
+pub mod HomeLinks
 pub mod FinerScenarios
 pub mod SameTexts
 pub mod Rows

@@ -1,9 +1,10 @@
 -- Worked rows: scenarios in real time, the same ones in ticks that are twice as fine, and runs of them.
 use Rattle.std.specs.List.{AllZip}
-use Rattle.std.proofs.Common.{◌≡◌, ℕ, ◌≤◌, IsTrue, List, [], ◌∷◌, map, replicate, codes, refl, arith}
+use Rattle.std.proofs.lemmas.Bool.{ne_eqb}
+use Rattle.std.proofs.Common.{◌≡◌, ℕ, zero, suc, ◌≤◌, IsTrue, List, [], ◌∷◌, map, replicate, codes, refl, arith}
 use Rattle.convoy_scenario.specs.declared.sender.Sender.TheVariants.{Client, Group}
 use Rattle.convoy_draft.specs.declared.time.Time.TheVariants.{Real}
-use Rattle.convoy_scenario.specs.Scenario.{Link, Scenario}
+use Rattle.convoy_scenario.specs.Scenario.{Link, Scenario, takes_time}
 use Rattle.convoy_scenario.specs.declared.sender.Sender.{Sender}
 use Rattle.convoy_packets.specs.declared.packet.Packet.{Packet}
 use Rattle.convoy_packets.specs.Packets.{packets_of}
@@ -50,6 +51,13 @@ at_packet : (R : ℕ × ℕ → ℕ × ℕ → Type 0) (plan fine : Scenario) �
     → (packet : Packet) → IsTrue (is_sent plan packet) → R (range_of plan packet) (range_of fine packet)
 at_packet R plan fine holds packet sent = zip_at R (range_of plan) (range_of fine) (packets_of plan) holds packet (in_of_sent plan packet sent)
 
+-- neither has a link from a group to itself
+none_home : (g : ℕ) → takes_time in_half_ticks (Group g) g ≡ takes_time in_ticks (Group g) g
+unfolding in_ticks in_half_ticks half_link base_with message
+none_home zero = refl
+none_home (suc zero) = refl
+none_home (suc (suc g)) = rw (ne_eqb (suc (suc g)) 0 (λ e. omega (arith, e)), ne_eqb (suc (suc g)) 1 (λ e. omega (arith, e))) refl
+
 half_ticks_are_finer : IsFiner 2 in_ticks in_half_ticks
 unfolding in_ticks in_half_ticks half_link base_with message packets_of
 half_ticks_are_finer = record {
@@ -59,6 +67,7 @@ half_ticks_are_finer = record {
     record { sender = refl; destinations = refl; at = omega arith; until = omega arith },
     (record { sender = refl; destinations = refl; at = omega arith; until = omega arith }, (record { sender = refl; destinations = refl; at = omega arith; until = omega arith }, tt)),
   );
+  home = none_home;
   ranges = λ packet sent travels. at_packet (IsInRange 2) in_ticks in_half_ticks (ranges_within 2 (map (range_of in_ticks) (packets_of in_ticks))) packet sent;
   target_message = refl;
   target_group = refl;
@@ -68,6 +77,43 @@ same_ranges : AreSameRanges 2 in_ticks in_half_ticks
 unfolding in_ticks in_half_ticks half_link base_with message packets_of
 same_ranges packet sent =
     at_packet (λ range finer. finer ≡ finer_range 2 range) in_ticks in_half_ticks (ranges_same 2 (map (range_of in_ticks) (packets_of in_ticks))) packet sent
+
+-- y takes 2 to 3 ticks from a to a itself ..
+unfoldable own_in_ticks : Scenario
+own_in_ticks = record in_ticks { links = record { sender = Group 0; to = 0; least = 2; most = 3 } ∷ [] }
+
+-- .. and 4 to 6 half ticks
+unfoldable own_in_half_ticks : Scenario
+own_in_half_ticks = record in_half_ticks {
+  links = half_link Client 0 ∷ half_link Client 1 ∷ record { sender = Group 0; to = 0; least = 4; most = 6 } ∷ half_link (Group 0) 1 ∷ half_link (Group 1) 0 ∷ [];
+}
+
+-- a alone has a link to itself, in both
+one_home : (g : ℕ) → takes_time own_in_half_ticks (Group g) g ≡ takes_time own_in_ticks (Group g) g
+unfolding own_in_ticks own_in_half_ticks in_ticks in_half_ticks half_link base_with message
+one_home zero = refl
+one_home (suc zero) = refl
+one_home (suc (suc g)) = rw (ne_eqb (suc (suc g)) 0 (λ e. omega (arith, e)), ne_eqb (suc (suc g)) 1 (λ e. omega (arith, e))) refl
+
+own_is_finer : IsFiner 2 own_in_ticks own_in_half_ticks
+unfolding own_in_ticks own_in_half_ticks in_ticks in_half_ticks half_link base_with message packets_of
+own_is_finer = record {
+  some = omega arith;
+  groups = refl;
+  messages = (
+    record { sender = refl; destinations = refl; at = omega arith; until = omega arith },
+    (record { sender = refl; destinations = refl; at = omega arith; until = omega arith }, (record { sender = refl; destinations = refl; at = omega arith; until = omega arith }, tt)),
+  );
+  home = one_home;
+  ranges = λ packet sent travels. at_packet (IsInRange 2) own_in_ticks own_in_half_ticks (ranges_within 2 (map (range_of own_in_ticks) (packets_of own_in_ticks))) packet sent;
+  target_message = refl;
+  target_group = refl;
+}
+
+own_has_same_ranges : AreSameRanges 2 own_in_ticks own_in_half_ticks
+unfolding own_in_ticks own_in_half_ticks in_ticks in_half_ticks half_link base_with message packets_of
+own_has_same_ranges packet sent =
+    at_packet (λ range finer. finer ≡ finer_range 2 range) own_in_ticks own_in_half_ticks (ranges_same 2 (map (range_of own_in_ticks) (packets_of own_in_ticks))) packet sent
 
 -- each packet takes a tick and a half, and t is six half ticks late ..
 half_ticks_late : latency_of in_half_ticks (in_fixed_order (replicate 8 3)) ≡ 6
@@ -102,6 +148,7 @@ waits_are_finer longest_wait few = record {
     record { sender = refl; destinations = refl; at = omega arith; until = omega arith },
     (record { sender = refl; destinations = refl; at = omega arith; until = omega arith }, (record { sender = refl; destinations = refl; at = omega arith; until = omega arith }, tt)),
   );
+  home = none_home;
   ranges = λ packet sent travels. at_packet (IsInRange 2) waiting (waiting_in_half_ticks longest_wait)
       ((omega arith, omega arith), ((omega arith, omega arith), ((omega arith, omega arith), ((omega arith, omega arith), ((omega arith, omega arith), ((omega arith, omega arith), ((omega arith, omega arith), ((omega arith, omega arith), ((omega arith, omega arith), tt))))))))) packet sent;
   target_message = refl;

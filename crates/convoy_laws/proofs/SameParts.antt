@@ -1,8 +1,8 @@
 -- What a scenario has in common with the same one in finer ticks: its messages, their destinations, and the packets that travel.
 use Rattle.std.proofs.Common.{◌≡◌, ℕ, zero, suc, ◌+◌, ◌*◌, ◌==◌, ◌&&◌, not, List, [], ◌∷◌, length, get_or, filter, refl, ap, ap₂, ◌∙◌, arith}
 use Rattle.std.specs.List.{AllZip, list_any, range_with_len}
-use Rattle.convoy_scenario.specs.declared.sender.Sender.{Sender}
-use Rattle.convoy_scenario.specs.Scenario.{Message, Scenario, GoesTo, no_message, message_at, message_numbers, is_addressed, is_sent_by}
+use Rattle.convoy_scenario.specs.Scenario.{Message, Scenario, GoesTo, no_message, message_at, message_numbers, is_addressed, takes_time}
+use Rattle.convoy_scenario.proofs.TakingTime.{same_takes}
 use Rattle.convoy_packets.specs.declared.packet.Packet.TheVariants.{Multicast, Propose}
 use Rattle.convoy_packets.specs.ScheduleLaws.{is_sent}
 use Rattle.convoy_sim.specs.Delivery.{addressed_to}
@@ -21,10 +21,6 @@ as_many k [] [] h = refl
 as_many k [] (y ∷ ys) h = absurd h
 as_many k (x ∷ xs) [] h = absurd h
 as_many k (x ∷ xs) (y ∷ ys) h = ap suc (as_many k xs ys h.1)
-
--- a message of which no more is known than who sends it
-abbrev sent_by : Sender → Message
-sent_by sender = record { name = []; sender = sender; destinations = []; at = 0; longest_wait = 0 }
 
 module _ (k : ℕ) (plan fine : Scenario) (is : IsFiner k plan fine) where
   pub same_message : (m : ℕ) → IsFinerMessage k (message_at plan m) (message_at fine m)
@@ -47,7 +43,8 @@ module _ (k : ℕ) (plan fine : Scenario) (is : IsFiner k plan fine) where
   -- a message or a stamp is a packet of both, or of none
   pub same_multicast : (m g : ℕ) → is_sent fine (Multicast m g) ≡ is_sent plan (Multicast m g)
   same_multicast m g =
-      ap₂ (λ a b. a && not b) (same_addressed m g) (ap (λ sender. is_sent_by (sent_by sender) g) (same_message m).sender)
+      ap₂ (λ a b. a && b) (same_addressed m g)
+      (same_takes plan fine is.home (message_at fine m).sender g ∙ ap (λ sender. takes_time plan sender g) (same_message m).sender)
 
   pub same_propose : (m h g : ℕ) → is_sent fine (Propose m h g) ≡ is_sent plan (Propose m h g)
   same_propose m h g = ap₂ (λ a b. a && b && not (h == g)) (same_addressed m h) (same_addressed m g)

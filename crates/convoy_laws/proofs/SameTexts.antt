@@ -11,7 +11,7 @@ use Rattle.convoy_draft.specs.Checks.{checks, judge}
 use Rattle.convoy_draft.specs.Draft.{Draft}
 use Rattle.convoy_draft.specs.Durations.{count_of}
 use Rattle.convoy_draft.specs.Limits.{is_tick}
-use Rattle.convoy_scenario.specs.ScenarioLaws.{DraftsGiveScenarios, OrderKeepsRanges}
+use Rattle.convoy_scenario.specs.ScenarioLaws.{DraftsGiveScenarios, OrderKeepsRanges, OrderKeepsWhatTakesTime}
 use Rattle.convoy_scenario.specs.Numbering.{scenario_of, scenario_of_draft}
 use Rattle.convoy_scenario.specs.Scenario.{Scenario}
 use Rattle.convoy_scenario.specs.Room.{has_room}
@@ -33,6 +33,7 @@ pub record Grounds : Type 0 where
   pub in_finer : GreatestInFinerTicks
   pub in_whole : GreatestIsWhole
   pub keeps : OrderKeepsRanges
+  pub takes : OrderKeepsWhatTakesTime
   pub drafts : DraftsGiveScenarios
   pub roundable : ScenariosAreRoundable
 
@@ -86,8 +87,8 @@ same_greatest grounds times tick plain least are =
     let finer = scenario_of fine_draft in
     let made : scenario_of_draft draft ≡ Ok scenario = given_by draft are.holds are.room in
     let well = grounds.roundable scenario (grounds.drafts draft scenario made) in
-    let is = is_finer grounds.keeps times tick plain least are in
-    let same = same_ranges grounds.keeps times tick plain least are in
+    let is = is_finer grounds.keeps grounds.takes times tick plain least are in
+    let same = same_ranges grounds.keeps grounds.takes times tick plain least are in
     record {
       in_finer = λ latency. grounds.in_finer times scenario finer latency well are.real are.real is same;
       in_whole = λ greatest. grounds.in_whole times scenario finer greatest well are.real are.real is same;

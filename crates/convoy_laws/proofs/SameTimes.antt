@@ -4,8 +4,7 @@ use Rattle.std.specs.List.{AllZip, list_any, range_with_len}
 use Rattle.std.proofs.lemmas.Bool.{ltb-false}
 use Rattle.std.proofs.lemmas.List.{get_or-map}
 use Rattle.std.proofs.lemmas.Option.{same_Some, slice_get-get_or, slice_get_within}
-use Rattle.convoy_scenario.specs.declared.sender.Sender.{Sender}
-use Rattle.convoy_scenario.specs.Scenario.{Message, Scenario, no_message, message_at, message_numbers, is_addressed, is_sent_by, range_between, window_of}
+use Rattle.convoy_scenario.specs.Scenario.{Message, Scenario, no_message, message_at, message_numbers, is_addressed, range_between, takes_time, window_of}
 use Rattle.convoy_packets.specs.declared.packet.Packet.{Packet}
 use Rattle.convoy_packets.specs.declared.packet.Packet.TheVariants.{Wait, Multicast, Propose}
 use Rattle.convoy_packets.specs.Packets.{packets_of, place_of}
@@ -35,10 +34,6 @@ as_many [] [] h = refl
 as_many [] (y ∷ ys) h = absurd h
 as_many (x ∷ xs) [] h = absurd h
 as_many (x ∷ xs) (y ∷ ys) h = ap suc (as_many xs ys h.1)
-
--- a message of which no more is known than who sends it
-abbrev sent_by : Sender → Message
-sent_by sender = record { name = []; sender = sender; destinations = []; at = 0; longest_wait = 0 }
 
 map_same : (f g : ℕ → ℕ) (xs : List ℕ) → ((x : ℕ) → f x ≡ g x) → map f xs ≡ map g xs
 map_same f g [] h = refl
@@ -70,7 +65,7 @@ module _ (scenario : Scenario) (messages : List Message) (alike : AllZip AreAlik
 
   same_multicast : (m g : ℕ) → is_sent other (Multicast m g) ≡ is_sent scenario (Multicast m g)
   same_multicast m g =
-      ap₂ (λ a b. a && not b) (same_addressed m g) (ap (λ sender. is_sent_by (sent_by sender) g) (same_message m).sender)
+      ap₂ (λ a b. a && b) (same_addressed m g) (ap (λ sender. takes_time scenario sender g) (same_message m).sender)
 
   same_propose : (m h g : ℕ) → is_sent other (Propose m h g) ≡ is_sent scenario (Propose m h g)
   same_propose m h g = ap₂ (λ a b. a && b && not (h == g)) (same_addressed m h) (same_addressed m g)

@@ -3,10 +3,11 @@ use Rattle.std.proofs.Common.{◌≡◌, ℕ, suc, ◌+◌, ◌-◌, ◌*◌, �
 use Rattle.std.specs.List.{AllZip, flat_map, enumerate_from}
 use Rattle.std.proofs.lemmas.Bool.{cases_Bool, ltb-false}
 use Rattle.convoy_scenario.specs.declared.sender.Sender.{Sender}
-use Rattle.convoy_scenario.specs.Scenario.{Message, Scenario, GoesTo, may_wait, no_message, message_at}
+use Rattle.convoy_scenario.specs.Scenario.{Message, Scenario, GoesTo, may_wait, no_message, message_at, takes_time}
+use Rattle.convoy_scenario.proofs.TakingTime.{same_takes}
 use Rattle.convoy_packets.specs.declared.packet.Packet.{Packet}
 use Rattle.convoy_packets.specs.declared.packet.Packet.TheVariants.{Wait, Multicast, Propose}
-use Rattle.convoy_packets.specs.Packets.{message_packets, multicast_packets, propose_packets, packets_of, place_of}
+use Rattle.convoy_packets.specs.Packets.{message_packets, multicast_packets, propose_packets, wait_packets, packets_of, place_of}
 use Rattle.convoy_packets.specs.Order.{AreRanks, rank_at}
 use Rattle.convoy_packets.specs.Assignment.{Schedule, AreWithin, IsAssignment, delay_of, range_of, ranges_of}
 use Rattle.convoy_packets.specs.ScheduleLaws.{PacketsAreThoseSent}
@@ -22,7 +23,7 @@ use Rattle.convoy_laws.proofs.Ceiling.{times_rise, times_fall, times_plus}
 use Rattle.convoy_laws.proofs.Scaled.{times_greatest, times_at, times_within, times_before, times_same, floor_rises, floor_falls, floor_at_most, floor_past}
 use Rattle.convoy_laws.proofs.SameParts.{same_message, same_numbers, fixed_too, same_addressed, same_addressed_to, goes_too}
 use Rattle.convoy_origin.proofs.SameRun.{IsMoved, moment_at, moved, same_local, same_final}
-use Rattle.convoy_origin.proofs.Lists.{map_made}
+use Rattle.convoy_origin.proofs.Lists.{filter_same, map_made}
 use Rattle.convoy_origin.proofs.Delivered.{IsSameHold, free_same, delivered_by, delivered_free}
 
 -- the schedule in finer ticks
@@ -46,30 +47,39 @@ stretch_before k some x y =
     (times_before k some x.tick y.tick) (times_same k some x.tick y.tick)
 
 -- the list of packets tells of a message who sends it, where it goes, and whether it may wait
-abbrev packets_told : ℕ → Bool → Sender → List ℕ → List Packet
-packets_told m waits sender destinations = message_packets m (record { name = []; sender = sender; destinations = destinations; at = 0; longest_wait = if waits then 1 else 0 })
+abbrev packets_told : Scenario → ℕ → Bool → Sender → List ℕ → List Packet
+packets_told plan m waits sender destinations = message_packets plan m (record { name = []; sender = sender; destinations = destinations; at = 0; longest_wait = if waits then 1 else 0 })
 
-told_packets : (m : ℕ) (message : Message) → message_packets m message ≡ packets_told m (may_wait message) message.sender message.destinations
-told_packets m message =
-    ap (λ (waits : Bool). (if waits then Wait m ∷ [] else []) ++ (multicast_packets m message ++ flat_map (propose_packets m message) message.destinations))
+told_packets : (plan : Scenario) (m : ℕ) (message : Message) → message_packets plan m message ≡ packets_told plan m (may_wait message) message.sender message.destinations
+told_packets plan m message =
+    ap (λ (waits : Bool). (if waits then Wait m ∷ [] else []) ++ (multicast_packets plan m message ++ flat_map (propose_packets m message) message.destinations))
     (sym (may_wait_told (may_wait message))) where
       may_wait_told : (waits : Bool) → nat_lt 0 (if waits then 1 else 0) ≡ waits
       may_wait_told true = refl
       may_wait_told false = refl
 
-packets_in : (k n : ℕ) (xs ys : List Message) → AllZip (IsFinerMessage k) xs ys
-    → ((m : ℕ) → may_wait (get_or ys m no_message) ≡ may_wait (get_or xs m no_message))
-    → flat_map (λ p. message_packets p.0 p.1) (enumerate_from n ys) ≡ flat_map (λ p. message_packets p.0 p.1) (enumerate_from n xs)
-packets_in k n [] [] h waits = refl
-packets_in k n [] (y ∷ ys) h waits = absurd h
-packets_in k n (x ∷ xs) [] h waits = absurd h
-packets_in k n (x ∷ xs) (y ∷ ys) h waits =
-    ap₂ ◌++◌
-    (told_packets n y
-    ∙ ap (λ b. packets_told n b y.sender y.destinations) (waits 0)
-    ∙ ap₂ (packets_told n (may_wait x)) h.0.sender h.0.destinations
-    ∙ sym (told_packets n x))
-    (packets_in k (n + 1) xs ys h.1 (λ m. waits (suc m)))
+-- where the same takes time, a message has the same packets
+pub same_sends : (plan fine : Scenario) → ((sender : Sender) (to : ℕ) → takes_time fine sender to ≡ takes_time plan sender to)
+    → (m : ℕ) (message : Message) → message_packets fine m message ≡ message_packets plan m message
+same_sends plan fine takes m message =
+    ap (λ (gs : List ℕ). wait_packets m message ++ (map (λ g. Multicast m g) gs ++ flat_map (propose_packets m message) message.destinations))
+    (filter_same (takes_time fine message.sender) (takes_time plan message.sender) message.destinations (takes message.sender))
+
+module _ (k : ℕ) (plan fine : Scenario) (takes : (sender : Sender) (to : ℕ) → takes_time fine sender to ≡ takes_time plan sender to) where
+  packets_in : (n : ℕ) (xs ys : List Message) → AllZip (IsFinerMessage k) xs ys
+      → ((m : ℕ) → may_wait (get_or ys m no_message) ≡ may_wait (get_or xs m no_message))
+      → flat_map (λ p. message_packets fine p.0 p.1) (enumerate_from n ys) ≡ flat_map (λ p. message_packets plan p.0 p.1) (enumerate_from n xs)
+  packets_in n [] [] h waits = refl
+  packets_in n [] (y ∷ ys) h waits = absurd h
+  packets_in n (x ∷ xs) [] h waits = absurd h
+  packets_in n (x ∷ xs) (y ∷ ys) h waits =
+      ap₂ ◌++◌
+      (same_sends plan fine takes n y
+      ∙ told_packets plan n y
+      ∙ ap (λ b. packets_told plan n b y.sender y.destinations) (waits 0)
+      ∙ ap₂ (packets_told plan n (may_wait x)) h.0.sender h.0.destinations
+      ∙ sym (told_packets plan n x))
+      (packets_in (n + 1) xs ys h.1 (λ m. waits (suc m)))
 
 -- ---- with the same ranges a message may be issued at the same times, so the packets are the same
 module _ (sent : PacketsAreThoseSent) (k : ℕ) (plan fine : Scenario) (is : IsFiner k plan fine) (same : AreSameRanges k plan fine) where
@@ -95,7 +105,7 @@ module _ (sent : PacketsAreThoseSent) (k : ℕ) (plan fine : Scenario) (is : IsF
 
   same_packets : packets_of fine ≡ packets_of plan
   unfolding packets_of
-  same_packets = packets_in k 0 plan.multicasts fine.multicasts is.messages waits_too
+  same_packets = packets_in k plan fine (same_takes plan fine is.home) 0 plan.multicasts fine.multicasts is.messages waits_too
 
   same_list : ranges_of fine ≡ map (finer_range k) (ranges_of plan)
   unfolding ranges_of

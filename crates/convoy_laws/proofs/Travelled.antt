@@ -1,4 +1,4 @@
--- The way of each packet that travels: it is one on which something goes by the scenario as it is written.
+-- The way of each packet that goes to another place: it is one on which something goes by the scenario as it is written.
 use Rattle.std.proofs.Common.{◌≡◌, ℕ, zero, suc, ◌<◌, ◌==◌, ◌&&◌, leb, Bool, true, false, not, List, [], ◌∷◌, length, get_or, map, take, Option, Some, None, flat_map, inl, inr, refl, sym, ap, subst, ◌∙◌, arith}
 use Rattle.std.specs.List.{list_all, list_any, IsDistinct}
 use Rattle.std.specs.Str.{bytes_eq}
@@ -11,7 +11,7 @@ use Rattle.convoy_draft.specs.Draft.{Draft, DraftMessage}
 use Rattle.convoy_scenario.specs.declared.sender.Sender.{Sender}
 use Rattle.convoy_scenario.specs.declared.sender.Sender.TheVariants.{Group}
 use Rattle.convoy_scenario.specs.Numbering.{message_of, numbers_of, place, scenario_of, sender_of}
-use Rattle.convoy_scenario.specs.Scenario.{Message, is_addressed, is_sent_by, message_at, no_message}
+use Rattle.convoy_scenario.specs.Scenario.{Message, is_addressed, is_same_sender, message_at, no_message, takes_time}
 use Rattle.convoy_scenario.proofs.NumberedAgain.{itself, one_place, place_again, same_bytes}
 use Rattle.convoy_scenario.proofs.NumberedLemmas.{Passes, groups_distinct}
 use Rattle.convoy_packets.specs.declared.packet.Packet.{Packet}
@@ -101,27 +101,26 @@ module _ (draft : Draft) (passed : Passes draft) where
     list_all_in p x (y ∷ ys) (inr i) e = list_all_in p x ys i (and_parts (p y) (list_all p ys) e).1
 
   -- a group that does not send the message has another name than its sender
-  other_sender : (message : DraftMessage) (g : ℕ) → g < length groups → not (is_sent_by (message_of groups message) g) ≡ true → not (is_named_alike message.sender (Some (get_or groups g []))) ≡ true
-  other_sender message g below unsent = by_sender message.sender unsent where
-    by_sender : (sender : Option (List ℕ)) → not (is_sent_by (message_of groups (record message { sender = sender })) g) ≡ true → not (is_named_alike sender (Some (get_or groups g []))) ≡ true
-    by_sender None unsent = refl
-    by_sender (Some name) unsent =
-        ap not (false_from_ne_true _ (λ e.
-        let same : name ≡ get_or groups g [] = same_bytes name (get_or groups g []) e in
-        let at : place name groups ≡ g = ap (λ n. place n groups) same ∙ place_again groups g distinct below in
-        eqb-false (place name groups) g (not-true (place name groups == g) unsent) at))
+  other_sender : (sender : Option (List ℕ)) (g : ℕ) → g < length groups → is_same_sender (sender_of groups sender) (Group g) ≡ false → not (is_named_alike sender (Some (get_or groups g []))) ≡ true
+  other_sender None g below apart = refl
+  other_sender (Some name) g below apart =
+      ap not (false_from_ne_true _ (λ e.
+      let same : name ≡ get_or groups g [] = same_bytes name (get_or groups g []) e in
+      let at : place name groups ≡ g = ap (λ n. place n groups) same ∙ place_again groups g distinct below in
+      eqb-false (place name groups) g apart at))
 
   other_name : (h g : ℕ) → h < length groups → g < length groups → not (h == g) ≡ true → not (bytes_eq (get_or groups h []) (get_or groups g [])) ≡ true
   other_name h g low high other =
       ap not (false_from_ne_true _ (λ e. eqb-false h g (not-true (h == g) other) (one_place groups h g distinct low high (same_bytes _ _ e))))
 
-  pub goes : (packet : Packet) → is_wait packet ≡ false → is_sent (scenario_of draft) packet ≡ true → Goes draft (packet_sender (scenario_of draft) packet) (receiver_of packet)
-  goes (Wait m) travels sent = absurd (false≢true (sym travels))
-  goes (Multicast m g) travels sent =
-      let parts = and_parts (is_addressed (message_at (scenario_of draft) m) g) (not (is_sent_by (message_at (scenario_of draft) m) g)) sent in
+  pub goes : (packet : Packet) → is_wait packet ≡ false → is_sent (scenario_of draft) packet ≡ true → is_same_sender (packet_sender (scenario_of draft) packet) (Group (receiver_of packet)) ≡ false
+      → Goes draft (packet_sender (scenario_of draft) packet) (receiver_of packet)
+  goes (Wait m) travels sent apart = absurd (false≢true (sym travels))
+  goes (Multicast m g) travels sent apart =
+      let parts = and_parts (is_addressed (message_at (scenario_of draft) m) g) (takes_time (scenario_of draft) (message_at (scenario_of draft) m).sender g) sent in
       let message = written_at groups draft.messages m g parts.0 in
       let addressed : is_addressed (message_of groups message.written) g ≡ true = rw (message.is) at parts.0 in
-      let unsent : not (is_sent_by (message_of groups message.written) g) ≡ true = rw (message.is) at parts.1 in
+      let away : is_same_sender (sender_of groups message.written.sender) (Group g) ≡ false = ap (λ (written : Message). is_same_sender written.sender (Group g)) (sym message.is) ∙ apart in
       let to = named_of groups message.written.to g addressed in
       let known = message_known message.written message.there in
       record {
@@ -130,9 +129,9 @@ module _ (draft : Draft) (passed : Passes draft) where
         there = place_again groups g distinct to.below;
         between = rw all_groups (way_between groups message.written.sender (get_or groups g []) known (name_in groups g to.below));
         carried = list_any_in (carries (way_to message.written.sender (get_or groups g []))) message.written draft.messages message.there
-            (rw (other_sender message.written g to.below unsent, to.among, alike_itself message.written.sender) refl);
+            (rw (other_sender message.written.sender g to.below away, to.among, alike_itself message.written.sender) refl);
       }
-  goes (Propose m h g) travels sent =
+  goes (Propose m h g) travels sent apart =
       let parts = and_parts (is_addressed (message_at (scenario_of draft) m) h && is_addressed (message_at (scenario_of draft) m) g) (not (h == g)) sent in
       let both = and_parts (is_addressed (message_at (scenario_of draft) m) h) (is_addressed (message_at (scenario_of draft) m) g) parts.0 in
       let message = written_at groups draft.messages m h both.0 in

@@ -3,7 +3,8 @@ use Rattle.std.specs.Prelude.{◌≡◌, ℕ, ◌+◌, ◌*◌, ◌≤◌, lengt
 use Rattle.std.specs.List.{AllZip}
 use Rattle.convoy_draft.specs.declared.time.Time.TheVariants.{Real}
 use Rattle.convoy_draft.specs.declared.limits.TheConstants.{MOST_GROUPS, MOST_MULTICASTS}
-use Rattle.convoy_scenario.specs.Scenario.{GoesTo, Message, Scenario}
+use Rattle.convoy_scenario.specs.declared.sender.Sender.TheVariants.{Group}
+use Rattle.convoy_scenario.specs.Scenario.{GoesTo, Message, Scenario, takes_time}
 use Rattle.convoy_scenario.specs.WellFormed.{IsMulticast, IsScenario}
 use Rattle.convoy_packets.specs.declared.packet.Packet.{Packet}
 use Rattle.convoy_packets.specs.Packets.{is_wait}
@@ -23,11 +24,12 @@ pub record IsFinerMessage (times : ℕ) (message finer : Message) : Type 0 where
 abbrev pub IsInRange : ℕ → ℕ × ℕ → ℕ × ℕ → Type 0
 IsInRange times range finer = (times * range.0 ≤ finer.0) × (finer.1 ≤ times * range.1)
 
--- a scenario told in ticks so many times as fine: it has as many groups, the same messages and the same target, and the range of each packet that travels lies within the one that it has in ticks
+-- a scenario told in ticks so many times as fine: it has as many groups, the same messages and the same target, the same groups have links to themselves, and the range of each packet that travels lies within the one that it has in ticks
 pub record IsFiner (times : ℕ) (scenario finer : Scenario) : Type 0 where
   pub some : 1 ≤ times
   pub groups : length finer.groups ≡ length scenario.groups
   pub messages : AllZip (IsFinerMessage times) scenario.multicasts finer.multicasts
+  pub home : (g : ℕ) → takes_time finer (Group g) g ≡ takes_time scenario (Group g) g
   pub ranges : (packet : Packet) → IsTrue (is_sent scenario packet) → IsFalse (is_wait packet) → IsInRange times (range_of scenario packet) (range_of finer packet)
   pub target_message : finer.target_message ≡ scenario.target_message
   pub target_group : finer.target_group ≡ scenario.target_group

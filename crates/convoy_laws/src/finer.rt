@@ -10,7 +10,9 @@ ghost use Rattle.convoy_laws.specs.FinerTicks.{WholeTicksAreEnough};
 use convoy_packets::schedule_laws::{
     delays_are_within, packets_are_those_sent, places_lead_back, unsent_takes_no_time,
 };
-use convoy_scenario::scenario_laws::{drafts_give_scenarios, order_keeps_ranges};
+use convoy_scenario::scenario_laws::{
+    drafts_give_scenarios, order_keeps_ranges, order_keeps_what_takes_time,
+};
 use convoy_sim::protocol_laws::{
     arrives_before_commit, issued_at_its_tick, issued_within_its_wait,
 };
@@ -72,6 +74,7 @@ pub fn greatest_of_finer_texts()
     greatest_in_finer_ticks();
     greatest_is_whole();
     order_keeps_ranges();
+    order_keeps_what_takes_time();
     drafts_give_scenarios();
     scenarios_are_roundable();
 }

@@ -140,8 +140,8 @@ fn faults_tell_themselves(rt: HostRuntime) -> Result<(), Fail> {
     let alloc = rt.alloc();
     for (fault, want) in [
         (
-            Fault::Scenario(ScenarioFault::LinkToItself),
-            "the scenario is faulty: a link leads from a group to itself",
+            Fault::Scenario(ScenarioFault::UnknownTarget),
+            "the scenario is faulty: the target's message is not known",
         ),
         (
             Fault::Schedule(ListFault::Range(4)),

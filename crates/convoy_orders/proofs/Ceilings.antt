@@ -5,26 +5,30 @@ use Rattle.convoy_scenario.specs.declared.sender.Sender.{Sender}
 use Rattle.convoy_scenario.specs.declared.sender.Sender.TheVariants.{Group}
 use Rattle.convoy_scenario.specs.Scenario.{Scenario, message_at, message_numbers, is_addressed}
 use Rattle.convoy_sim.specs.Delivery.{addressed_to}
-use Rattle.convoy_ceiling.specs.Ceiling.{ceiling_at, ceiling_of, delays_between, longest_after, longest_by, longest_from_arrival, longest_to_commit}
+use Rattle.convoy_ceiling.specs.Ceiling.{ceiling_at, ceiling_of, delays_between, longest_after, longest_by, longest_from_arrival, longest_to_commit, stamp_delays}
 use Rattle.convoy_orders.specs.ListedOrder.{CeilingIsSame}
 use Rattle.convoy_orders.specs.Renumbered.{IsRenumbered, renumbered_sender}
 use Rattle.convoy_orders.proofs.Lists.{map_same}
-use Rattle.convoy_orders.proofs.Renumbering.{same_sender}
-use Rattle.convoy_orders.proofs.SameParts.{same_greatest, same_numbers}
+use Rattle.convoy_orders.proofs.Renumbering.{same_number}
+use Rattle.convoy_orders.proofs.SameParts.{same_greatest, same_numbers, takes_too}
 
 module _ (renumber back : ℕ → ℕ) (plan other : Scenario) (is : IsRenumbered renumber back plan other) where
   same_delays : (sender : Sender) (to : ℕ) → delays_between other (renumbered_sender renumber sender) (renumber to) ≡ delays_between plan sender to
   same_delays sender to =
-      ap₂ (λ (b : Bool) (range : ℕ × ℕ). if b then (0, 0) else range) (same_sender renumber back is.back_again sender (Group to)) (is.ranges sender to)
+      ap₂ (λ (b : Bool) (range : ℕ × ℕ). if b then range else (0, 0)) (takes_too renumber back plan other is sender to) (is.ranges sender to)
+
+  same_stamps : (from to : ℕ) → stamp_delays other (renumber from) (renumber to) ≡ stamp_delays plan from to
+  same_stamps from to =
+      ap₂ (λ (b : Bool) (range : ℕ × ℕ). if b then (0, 0) else range) (same_number renumber back is.back_again from to) (is.ranges (Group from) to)
 
   sender_delays : (m to : ℕ) → delays_between other (message_at other m).sender (renumber to) ≡ delays_between plan (message_at plan m).sender to
   sender_delays m to =
       ap (λ (s : Sender). delays_between other s (renumber to)) (is.messages m).sender ∙ same_delays (message_at plan m).sender to
 
   same_way : (m g h : ℕ) → longest_by other (message_at other m).sender (renumber g) (renumber h) ≡ longest_by plan (message_at plan m).sender g h
-  same_way m g h = ap₂ (λ (a b : ℕ × ℕ). a.1 + b.1) (sender_delays m h) (same_delays (Group h) g)
+  same_way m g h = ap₂ (λ (a b : ℕ × ℕ). a.1 + b.1) (sender_delays m h) (same_stamps h g)
 
-  same_to_commit : (m g : ℕ) → longest_to_commit other m (renumber g) ≡ longest_to_commit plan m g
+  pub same_to_commit : (m g : ℕ) → longest_to_commit other m (renumber g) ≡ longest_to_commit plan m g
   same_to_commit m g =
       same_greatest renumber back plan other is (longest_by plan (message_at plan m).sender g) (longest_by other (message_at other m).sender (renumber g)) m
       (λ h goes. same_way m g h)

@@ -11,6 +11,7 @@ pub mod Orders
 pub mod SameOrder
 pub mod Targets
 pub mod Ceilings
+pub mod SamePackets
 pub mod Narrower
 pub mod RelistedNames
 pub mod Relisted

@@ -1,16 +1,17 @@
 -- One scenario with two choices of links: each run with narrower ranges is one with the wider ones.
-use Rattle.std.proofs.Common.{◌≡◌, ℕ, ◌≤◌, List, [], ◌∷◌, map, refl, sym, subst, arith}
+use Rattle.std.proofs.Common.{◌≡◌, ℕ, ◌≤◌, Bool, List, [], ◌∷◌, ◌++◌, map, refl, sym, ap, subst, arith}
+use Rattle.std.specs.List.{enumerate_from, filter, flat_map}
+use Rattle.std.proofs.Math.Path.{fun_ext}
+use Rattle.convoy_scenario.specs.declared.sender.Sender.{Sender}
 use Rattle.convoy_scenario.specs.declared.sender.Sender.TheVariants.{Group}
-use Rattle.convoy_scenario.specs.Scenario.{Link, Scenario, message_at}
+use Rattle.convoy_scenario.specs.Scenario.{Link, Message, Scenario, message_at, takes_time}
+use Rattle.convoy_scenario.specs.ScenarioLaws.{HomesDecideWhatTakesTime}
 use Rattle.convoy_packets.specs.declared.packet.Packet.{Packet}
 use Rattle.convoy_packets.specs.declared.packet.Packet.TheVariants.{Wait, Multicast, Propose}
-use Rattle.convoy_packets.specs.Packets.{packets_of}
-use Rattle.convoy_packets.specs.Assignment.{AreWithin, IsAssignment, Schedule, delay_of, range_of, ranges_of}
-use Rattle.convoy_sim.specs.Times.{arrive, settle}
-use Rattle.convoy_sim.specs.Moments.{arrival_rank, commit_rank, moments_of}
-use Rattle.convoy_sim.specs.Stamps.{clocks_of, local_stamp, final_stamp}
-use Rattle.convoy_sim.specs.Delivery.{holds_back, deliver, latency_at}
+use Rattle.convoy_packets.specs.Packets.{packets_of, propose_packets, wait_packets}
+use Rattle.convoy_packets.specs.Assignment.{AreWithin, IsAssignment, Schedule, range_of, ranges_of}
 use Rattle.convoy_orders.proofs.SameOrder.{same_order}
+use Rattle.convoy_orders.proofs.SamePackets.{same_latency}
 use Rattle.convoy_orders.specs.NarrowerRanges.{AreNarrowerRanges, IsWithinRange, NarrowerIsNoSlower, NarrowerRunsAreRuns, with_links}
 
 within_wide : (narrow wide : Packet → ℕ × ℕ) (ps : List Packet) (ds : List ℕ) → ((p : Packet) → IsWithinRange (narrow p) (wide p))
@@ -25,26 +26,40 @@ within_wide narrow wide (p ∷ ps) (d ∷ ds) h a =
     let most = a.0.1 in
     ((omega arith, omega arith), within_wide narrow wide ps ds h a.1)
 
-same_latency : (plan : Scenario) (delay : ℕ) (links : List Link) (schedule : Schedule) (m g : ℕ) → latency_at (with_links delay links plan) schedule m g ≡ latency_at plan schedule m g
-unfolding packets_of delay_of arrive settle arrival_rank commit_rank moments_of clocks_of local_stamp final_stamp holds_back deliver latency_at
-same_latency plan delay links schedule m g = refl
+module _ (decide : HomesDecideWhatTakesTime) (plan : Scenario) (delay : ℕ) (links : List Link) (narrow : AreNarrowerRanges delay links plan) where
+  abbrev narrowed : Scenario
+  narrowed = with_links delay links plan
 
-packet_range : (plan : Scenario) (delay : ℕ) (links : List Link) → AreNarrowerRanges delay links plan
-    → (p : Packet) → IsWithinRange (range_of (with_links delay links plan) p) (range_of plan p)
-packet_range plan delay links narrow (Wait m) = (omega arith, omega arith)
-packet_range plan delay links narrow (Multicast m g) = narrow (message_at plan m).sender g
-packet_range plan delay links narrow (Propose m h g) = narrow (Group h) g
+  same_takes : takes_time narrowed ≡ takes_time plan
+  same_takes = fun_ext (λ sender. fun_ext (λ to. decide plan narrowed narrow.home sender to))
 
-assigned : (plan : Scenario) (delay : ℕ) (links : List Link) (schedule : Schedule) → AreNarrowerRanges delay links plan
-    → IsAssignment (with_links delay links plan) schedule → IsAssignment plan schedule
-unfolding packets_of ranges_of
-assigned plan delay links schedule narrow is = record {
-  delays = within_wide (range_of (with_links delay links plan)) (range_of plan) (packets_of plan) schedule.delays (packet_range plan delay links narrow) is.delays;
-  order = same_order plan (with_links delay links plan) refl refl schedule.order is.order;
-}
+  -- the packets of the messages, where what takes time is told
+  abbrev packets_where : (Sender → ℕ → Bool) → List Packet
+  packets_where takes =
+      flat_map
+      (λ (p : ℕ × Message). wait_packets p.0 p.1 ++ (map (λ g. Multicast p.0 g) (filter (takes p.1.sender) p.1.destinations) ++ flat_map (propose_packets p.0 p.1) p.1.destinations))
+      (enumerate_from 0 plan.multicasts)
 
-pub narrower_runs : NarrowerRunsAreRuns
-narrower_runs plan delay links schedule narrow is = (assigned plan delay links schedule narrow is, same_latency plan delay links schedule)
+  same_packets : packets_of narrowed ≡ packets_of plan
+  unfolding packets_of
+  same_packets = ap packets_where same_takes
+
+  packet_range : (p : Packet) → IsWithinRange (range_of narrowed p) (range_of plan p)
+  packet_range (Wait m) = (omega arith, omega arith)
+  packet_range (Multicast m g) = narrow.ranges (message_at plan m).sender g
+  packet_range (Propose m h g) = narrow.ranges (Group h) g
+
+  assigned : (schedule : Schedule) → IsAssignment narrowed schedule → IsAssignment plan schedule
+  unfolding ranges_of
+  assigned schedule is = record {
+    delays = within_wide (range_of narrowed) (range_of plan) (packets_of plan) schedule.delays packet_range
+        (subst (λ (ps : List Packet). AreWithin (map (range_of narrowed) ps) schedule.delays) same_packets is.delays);
+    order = same_order plan narrowed refl refl schedule.order is.order;
+  }
+
+pub narrower_runs : HomesDecideWhatTakesTime → NarrowerRunsAreRuns
+narrower_runs decide plan delay links schedule narrow is =
+    (assigned decide plan delay links narrow schedule is, same_latency plan delay links (same_packets decide plan delay links narrow) schedule)
 
 pub no_slower : NarrowerRunsAreRuns → NarrowerIsNoSlower
 no_slower runs plan delay links m g latency narrow upper schedule is =

@@ -1,11 +1,13 @@
 -- One draft with two choices of links: where each link is no wider, no range is.
-use Rattle.std.proofs.Common.{◌≡◌, ℕ, ◌≤◌, ◌==◌, ◌&&◌, List, [], ◌∷◌, map, Option, inl, inr, sym, ap₂, subst, subst₂, arith}
+use Rattle.std.proofs.Common.{◌≡◌, ℕ, ◌≤◌, Bool, ◌==◌, ◌&&◌, ◌||◌, not, List, [], ◌∷◌, map, Option, inl, inr, refl, sym, ap, ap₂, subst, subst₂, ◌∙◌, arith}
 use Rattle.std.specs.List.{AllZip, find}
+use Rattle.std.specs.Option.{is_some}
 use Rattle.std.proofs.lemmas.Bool.{cases_Bool}
 use Rattle.convoy_draft.specs.Draft.{DraftLink}
 use Rattle.convoy_scenario.specs.declared.sender.Sender.{Sender}
+use Rattle.convoy_scenario.specs.declared.sender.Sender.TheVariants.{Group}
 use Rattle.convoy_scenario.specs.Scenario.{Scenario, is_same_sender}
-use Rattle.convoy_scenario.specs.ScenarioLaws.{OrderKeepsRanges}
+use Rattle.convoy_scenario.specs.ScenarioLaws.{OrderKeepsRanges, OrderKeepsWhatTakesTime}
 use Rattle.convoy_scenario.specs.Numbering.{delay_of_draft, in_order, link_of, links_of_draft, place, scenario_of, sender_of}
 use Rattle.convoy_scenario.proofs.KeptRanges.{leads, range_found}
 use Rattle.convoy_orders.specs.GreatestAt.{IsUpperAt}
@@ -30,16 +32,31 @@ module _ (groups : List (List ℕ)) (sender : Sender) (to : ℕ) where
         | inr elsewhere ↦ rw (same, elsewhere) (found_within delay less links ns low all.1)
       ]
 
-pub links_no_slower : OrderKeepsRanges → NarrowerIsNoSlower → NarrowerLinksAreNoSlower
-links_no_slower kept slower draft delay links plan narrow m g latency is too low all upper =
-    let mine = is_given kept draft plan is in
-    let its = is_given kept (relinked delay links draft) narrow too in
+  found_where : (links narrow : List DraftLink) → AllZip IsNarrowerLink links narrow
+      → is_some (find (leads sender to) (map (link_of groups) narrow)) ≡ is_some (find (leads sender to) (map (link_of groups) links))
+  found_where [] [] all = refl
+  found_where [] (n ∷ ns) all = absurd all
+  found_where (link ∷ links) [] all = absurd all
+  found_where (link ∷ links) (n ∷ ns) all =
+      let same = leads_alike link n all.0 in
+      elim (cases_Bool (leads sender to (link_of groups link))) [
+        | inl here ↦ rw (same, here) refl
+        | inr elsewhere ↦ rw (same, elsewhere) (found_where links ns all.1)
+      ]
+
+pub links_no_slower : OrderKeepsRanges → OrderKeepsWhatTakesTime → NarrowerIsNoSlower → NarrowerLinksAreNoSlower
+links_no_slower kept takes slower draft delay links plan narrow m g latency is too low all upper =
+    let mine = is_given kept takes draft plan is in
+    let its = is_given kept takes (relinked delay links draft) narrow too in
     let less : delay_of_draft (relinked delay links draft) ≤ delay_of_draft draft =
     subst₂ (λ (s t : Scenario). s.delay ≤ t.delay) (sym its.made) (sym mine.made) low in
     let narrower : AreNarrowerRanges (delay_of_draft (relinked delay links draft)) (in_order (delay_of_draft (relinked delay links draft)) (links_of_draft (relinked delay links draft))) (scenario_of draft) =
-    λ sender to.
-    subst₂ IsWithinRange (sym (its.kept sender to)) (sym (mine.kept sender to))
-    (found_within draft.groups sender to (delay_of_draft draft) (delay_of_draft (relinked delay links draft)) draft.links links less all) in
+    record {
+      home = λ g. its.home g ∙ ap (λ (found : Bool). not (g == g) || found) (found_where draft.groups (Group g) g draft.links links all) ∙ sym (mine.home g);
+      ranges = λ sender to.
+          subst₂ IsWithinRange (sym (its.kept sender to)) (sym (mine.kept sender to))
+          (found_within draft.groups sender to (delay_of_draft draft) (delay_of_draft (relinked delay links draft)) draft.links links less all);
+    } in
     subst (λ (s : Scenario). IsUpperAt s m g latency) its.made
     (slower (scenario_of draft) (delay_of_draft (relinked delay links draft)) (in_order (delay_of_draft (relinked delay links draft)) (links_of_draft (relinked delay links draft))) m g latency
     narrower (subst (λ (s : Scenario). IsUpperAt s m g latency) (sym mine.made) upper))

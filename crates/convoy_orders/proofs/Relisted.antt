@@ -1,6 +1,7 @@
 -- A draft and the same draft with its groups listed in another order give scenarios that are one but for the numbers of the groups.
-use Rattle.std.proofs.Common.{◌≡◌, ℕ, ◌<◌, ◌==◌, ◌&&◌, Bool, true, List, [], ◌∷◌, length, get_or, map, Ok, inl, inr, refl, sym, ap, ap₂, subst₂, ◌∙◌, arith}
+use Rattle.std.proofs.Common.{◌≡◌, ℕ, ◌<◌, ◌==◌, ◌&&◌, ◌||◌, not, Bool, true, List, [], ◌∷◌, length, get_or, map, Option, Some, Ok, inl, inr, refl, sym, ap, ap₂, subst₂, ◌∙◌, arith}
 use Rattle.std.specs.List.{find, list_all}
+use Rattle.std.specs.Option.{is_some}
 use Rattle.std.proofs.lemmas.Bool.{cases_Bool, cases_lt, and_parts}
 use Rattle.std.proofs.lemmas.List.{length-map, get_or-map, get_or_past}
 use Rattle.std.proofs.lemmas.List.Sorted.{IsPermutation-sym, length_permutation}
@@ -8,8 +9,9 @@ use Rattle.std.proofs.lemmas.List.Sums.{AllPass-from_list_all}
 use Rattle.convoy_draft.specs.Draft.{Draft, DraftLink, DraftMessage}
 use Rattle.convoy_draft.specs.Checks.{checks, is_among, is_known_sender, judge, knows, knows_link}
 use Rattle.convoy_scenario.specs.declared.sender.Sender.{Sender}
-use Rattle.convoy_scenario.specs.Scenario.{Scenario, is_same_sender, message_at, no_message, range_between}
-use Rattle.convoy_scenario.specs.ScenarioLaws.{OrderKeepsRanges}
+use Rattle.convoy_scenario.specs.declared.sender.Sender.TheVariants.{Group}
+use Rattle.convoy_scenario.specs.Scenario.{Link, Scenario, is_same_sender, message_at, no_message, range_between, takes_time}
+use Rattle.convoy_scenario.specs.ScenarioLaws.{OrderKeepsRanges, OrderKeepsWhatTakesTime}
 use Rattle.convoy_scenario.specs.Numbering.{delay_of_draft, link_of, links_of_draft, message_of, place, scenario_of, scenario_of_draft}
 use Rattle.convoy_scenario.proofs.GivenScenarios.{given, passed}
 use Rattle.convoy_scenario.proofs.KeptRanges.{leads, range_found}
@@ -24,9 +26,14 @@ abbrev AreRangesOf : Draft → Type 0
 AreRangesOf draft =
     (sender : Sender) (to : ℕ) → range_between (scenario_of draft) sender to ≡ range_found (delay_of_draft draft) (find (leads sender to) (links_of_draft draft))
 
+-- .. and a group has a link to itself where one is written
+abbrev AreHomesOf : Draft → Type 0
+AreHomesOf draft =
+    (g : ℕ) → takes_time (scenario_of draft) (Group g) g ≡ (not (g == g) || is_some (find (leads (Group g) g) (links_of_draft draft)))
+
 module _ (draft : Draft) (names : List (List ℕ)) (long : length names ≡ length draft.groups)
     (all : (g : ℕ) → g < length draft.groups → is_among (get_or draft.groups g []) names ≡ true) (is : Passes draft) (too : Passes (relisted names draft))
-    (kept : AreRangesOf draft) (kept_too : AreRangesOf (relisted names draft)) where
+    (kept : AreRangesOf draft) (kept_too : AreRangesOf (relisted names draft)) (home : AreHomesOf draft) (home_too : AreHomesOf (relisted names draft)) where
   abbrev plan : Scenario
   plan = scenario_of draft
 
@@ -75,23 +82,31 @@ module _ (draft : Draft) (names : List (List ℕ)) (long : length names ≡ leng
       ∙ same_sender renumber back again sender (link_of draft.groups link).sender)
       (ap (λ n. renumber to == n) (number_of_name draft.groups names long all link.to k.1) ∙ same_number renumber back again to (place link.to draft.groups))
 
-  found_too : (sender : Sender) (to delay : ℕ) (links : List DraftLink) → list_all (knows_link draft.groups) links ≡ true
-      → range_found delay (find (leads (renumbered_sender renumber sender) (renumber to)) (map (link_of names) links)) ≡ range_found delay (find (leads sender to) (map (link_of draft.groups) links))
-  found_too sender to delay [] known = refl
-  found_too sender to delay (link ∷ links) known =
-      let k = and_parts (knows_link draft.groups link) (list_all (knows_link draft.groups) links) known in
-      let rest = found_too sender to delay links k.1 in
-      let same = leads_too sender to link k.0 in
-      elim (cases_Bool (leads sender to (link_of draft.groups link))) [
-        | inl there ↦ rw (same, there) refl
-        | inr elsewhere ↦ rw (same, elsewhere) rest
-      ]
+  -- what is told alike of a link with its groups listed either way is told alike of the link that is found
+  module _ {A : Type 0} (told : Option Link → A) (alike : (link : DraftLink) → told (Some (link_of names link)) ≡ told (Some (link_of draft.groups link))) where
+    found_too : (sender : Sender) (to : ℕ) (links : List DraftLink) → list_all (knows_link draft.groups) links ≡ true
+        → told (find (leads (renumbered_sender renumber sender) (renumber to)) (map (link_of names) links)) ≡ told (find (leads sender to) (map (link_of draft.groups) links))
+    found_too sender to [] known = refl
+    found_too sender to (link ∷ links) known =
+        let k = and_parts (knows_link draft.groups link) (list_all (knows_link draft.groups) links) known in
+        let rest = found_too sender to links k.1 in
+        let same = leads_too sender to link k.0 in
+        elim (cases_Bool (leads sender to (link_of draft.groups link))) [
+          | inl there ↦ rw (same, there) (alike link)
+          | inr elsewhere ↦ rw (same, elsewhere) rest
+        ]
 
   range_too : (sender : Sender) (to : ℕ) → range_between other (renumbered_sender renumber sender) (renumber to) ≡ range_between plan sender to
   range_too sender to =
       kept_too (renumbered_sender renumber sender) (renumber to)
-      ∙ found_too sender to (delay_of_draft draft) draft.links is.ends
+      ∙ found_too (range_found (delay_of_draft draft)) (λ link. refl) sender to draft.links is.ends
       ∙ sym (kept sender to)
+
+  home_is : (g : ℕ) → takes_time other (Group (renumber g)) (renumber g) ≡ takes_time plan (Group g) g
+  home_is g =
+      home_too (renumber g)
+      ∙ ap₂ (λ (same found : Bool). not same || found) (same_number renumber back again g g) (found_too is_some (λ link. refl) (Group g) g draft.links is.ends)
+      ∙ sym (home g)
 
   module _ (no_others : (g : ℕ) → g < length names → is_among (get_or names g []) draft.groups ≡ true) where
     pub renumbered_too : IsRenumbered renumber back plan other
@@ -101,6 +116,7 @@ module _ (draft : Draft) (names : List (List ℕ)) (long : length names ≡ leng
       time = refl;
       message_count = length-map draft.messages (message_of names) ∙ sym (length-map draft.messages (message_of draft.groups));
       messages = messages_too;
+      home = home_is;
       ranges = range_too;
       target_message = refl;
       target_group = number_of_name draft.groups names long all draft.target_group is.target_group;
@@ -112,21 +128,23 @@ pub record IsGiven (draft : Draft) (plan : Scenario) : Type 0 where
   pub passes : Passes draft
   pub made : scenario_of draft ≡ plan
   pub kept : AreRangesOf draft
+  pub home : AreHomesOf draft
 
-pub is_given : OrderKeepsRanges → (draft : Draft) (plan : Scenario) → scenario_of_draft draft ≡ Ok plan → IsGiven draft plan
-is_given kept draft plan is =
+pub is_given : OrderKeepsRanges → OrderKeepsWhatTakesTime → (draft : Draft) (plan : Scenario) → scenario_of_draft draft ≡ Ok plan → IsGiven draft plan
+is_given kept takes draft plan is =
     let p = passed (judge (checks draft)) (scenario_of draft) plan is in
     record {
       rules = p.0;
       passes = passes draft p.0;
       made = p.1;
       kept = λ sender to. kept draft (scenario_of draft) sender to (given draft p.0 p.2);
+      home = λ g. takes draft (scenario_of draft) (Group g) g (given draft p.0 p.2);
     }
 
-pub drafts_renumbered : OrderKeepsRanges → RelistedDraftsAreRenumbered
-drafts_renumbered kept draft names plan other of =
-    let mine = is_given kept draft plan of.is in
-    let its = is_given kept (relisted names draft) other of.other_is in
+pub drafts_renumbered : OrderKeepsRanges → OrderKeepsWhatTakesTime → RelistedDraftsAreRenumbered
+drafts_renumbered kept takes draft names plan other of =
+    let mine = is_given kept takes draft plan of.is in
+    let its = is_given kept takes (relisted names draft) other of.other_is in
     subst₂ (IsRenumbered (number_in names draft.groups) (number_in draft.groups names)) mine.made its.made
     (renumbered_too draft names (length_permutation draft.groups names of.same) (λ g l. all_among names draft.groups (IsPermutation-sym draft.groups names of.same) g [] l)
-    mine.passes its.passes mine.kept its.kept (λ g l. all_among draft.groups names of.same g [] l))
+    mine.passes its.passes mine.kept its.kept mine.home its.home (λ g l. all_among draft.groups names of.same g [] l))

@@ -1,9 +1,9 @@
 -- What is told by numbers of groups, where each group goes by another one.
-use Rattle.std.proofs.Common.{◌≡◌, ℕ, ◌==◌, inl, inr, [], refl, sym, ap, ◌∙◌}
+use Rattle.std.proofs.Common.{◌≡◌, ℕ, ◌==◌, inl, inr, refl, sym, ap, ◌∙◌}
 use Rattle.std.proofs.lemmas.Bool.{cases_eq, eq-eqb, ne_eqb}
 use Rattle.convoy_scenario.specs.declared.sender.Sender.{Sender}
 use Rattle.convoy_scenario.specs.declared.sender.Sender.TheVariants.{Client, Group}
-use Rattle.convoy_scenario.specs.Scenario.{Message, is_same_sender, is_sent_by}
+use Rattle.convoy_scenario.specs.Scenario.{is_same_sender}
 use Rattle.convoy_packets.specs.declared.packet.Packet.{Packet}
 use Rattle.convoy_packets.specs.declared.packet.Packet.TheVariants.{Wait, Multicast, Propose}
 use Rattle.convoy_orders.specs.Renumbered.{renumbered_sender}
@@ -13,10 +13,6 @@ abbrev pub renumbered_packet : (ℕ → ℕ) → Packet → Packet
 renumbered_packet renumber (Wait m) = Wait m
 renumbered_packet renumber (Multicast m g) = Multicast m (renumber g)
 renumbered_packet renumber (Propose m h g) = Propose m (renumber h) (renumber g)
-
--- a message of which no more is known than who sends it
-abbrev pub sent_by : Sender → Message
-sent_by sender = record { name = []; sender = sender; destinations = []; at = 0; longest_wait = 0 }
 
 -- ---- numbers that lead back
 module _ (renumber back : ℕ → ℕ) (again : (g : ℕ) → back (renumber g) ≡ g) where
@@ -35,7 +31,3 @@ module _ (renumber back : ℕ → ℕ) (again : (g : ℕ) → back (renumber g) 
   same_sender Client (Group h) = refl
   same_sender (Group g) Client = refl
   same_sender (Group g) (Group h) = same_number g h
-
-  pub sent_too : (sender : Sender) (g : ℕ) → is_sent_by (sent_by (renumbered_sender renumber sender)) (renumber g) ≡ is_sent_by (sent_by sender) g
-  sent_too Client g = refl
-  sent_too (Group h) g = same_number h g

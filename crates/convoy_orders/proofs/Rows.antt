@@ -1,8 +1,9 @@
 -- Worked rows: a scenario with its two groups listed in either order.
 use Rattle.std.proofs.Common.{◌≡◌, ℕ, ◌≤◌, zero, suc, Bool, false, ◌||◌, List, [], ◌∷◌, replicate, refl, sym, ap, ◌∙◌, arith}
 use Rattle.std.specs.List.{Contains}
-use Rattle.std.proofs.lemmas.Bool.{ne_eqb}
-use Rattle.convoy_scenario.specs.Scenario.{GoesTo, Scenario, is_addressed, message_at}
+use Rattle.std.proofs.lemmas.Bool.{eq-eqb, ne_eqb}
+use Rattle.convoy_scenario.specs.declared.sender.Sender.TheVariants.{Group}
+use Rattle.convoy_scenario.specs.Scenario.{GoesTo, Scenario, is_addressed, message_at, takes_time}
 use Rattle.convoy_packets.specs.Packets.{packets_of}
 use Rattle.convoy_packets.specs.Assignment.{Schedule, IsAssignment, IsWithin, delay_of, in_fixed_order, ranges_of}
 use Rattle.convoy_packets.specs.Order.{no_order}
@@ -56,6 +57,11 @@ both_there (suc (suc zero)) = record { sender = refl; destinations = λ g. of_tw
   of_two (suc (suc g)) = refl
 both_there (suc (suc (suc m))) = record { sender = refl; destinations = λ g. refl; at = refl; wait = refl }
 
+-- neither has a link from a group to itself
+both_home : (h g : ℕ) → takes_time swapped (Group h) h ≡ takes_time base (Group g) g
+unfolding base_with swapped message
+both_home h g = rw (eq-eqb h h refl, eq-eqb g g refl) refl
+
 is_swapped : IsRenumbered swap swap base swapped
 unfolding base_with swapped message
 is_swapped = record {
@@ -64,6 +70,7 @@ is_swapped = record {
   time = refl;
   message_count = refl;
   messages = both_there;
+  home = λ g. both_home (swap g) g;
   ranges = λ sender to. refl;
   target_message = refl;
   target_group = refl;

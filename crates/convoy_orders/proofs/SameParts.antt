@@ -1,9 +1,10 @@
 -- What two scenarios have in common that are one but for the order of their groups: which messages go where, which packets there are, and their ranges.
-use Rattle.std.proofs.Common.{◌≡◌, ℕ, ◌==◌, ◌≤◌, max, Bool, ◌&&◌, not, nat_lt, map, fold, sym, ap, ap₂, subst, ◌∙◌, arith}
+use Rattle.std.proofs.Common.{◌≡◌, ℕ, ◌==◌, ◌≤◌, max, Bool, ◌&&◌, not, nat_lt, inl, inr, map, fold, refl, sym, ap, ap₂, subst, ◌∙◌, arith}
 use Rattle.std.specs.List.{range_with_len}
+use Rattle.std.proofs.lemmas.Bool.{cases_Bool, eqb-true}
 use Rattle.convoy_scenario.specs.declared.sender.Sender.{Sender}
-use Rattle.convoy_scenario.specs.declared.sender.Sender.TheVariants.{Group}
-use Rattle.convoy_scenario.specs.Scenario.{Scenario, GoesTo, message_at, message_numbers, is_addressed, is_sent_by, range_between}
+use Rattle.convoy_scenario.specs.declared.sender.Sender.TheVariants.{Client, Group}
+use Rattle.convoy_scenario.specs.Scenario.{Scenario, GoesTo, message_at, message_numbers, is_addressed, range_between, takes_time}
 use Rattle.convoy_packets.specs.declared.packet.Packet.{Packet}
 use Rattle.convoy_packets.specs.declared.packet.Packet.TheVariants.{Wait, Multicast, Propose}
 use Rattle.convoy_packets.specs.Assignment.{range_of}
@@ -11,7 +12,7 @@ use Rattle.convoy_packets.specs.ScheduleLaws.{is_sent}
 use Rattle.convoy_sim.proofs.Membership.{in_greatest, greatest_most}
 use Rattle.convoy_sim.proofs.Addressed.{in_of_goes, goes_from_in}
 use Rattle.convoy_orders.specs.Renumbered.{IsRenumbered, IsRenumberedMessage, renumbered_sender}
-use Rattle.convoy_orders.proofs.Renumbering.{renumbered_packet, same_number, sender_again, sent_by, sent_too}
+use Rattle.convoy_orders.proofs.Renumbering.{renumbered_packet, same_number, sender_again}
 
 module _ (renumber back : ℕ → ℕ) (plan other : Scenario) (is : IsRenumbered renumber back plan other) where
   pub same_numbers : message_numbers other ≡ message_numbers plan
@@ -26,12 +27,21 @@ module _ (renumber back : ℕ → ℕ) (plan other : Scenario) (is : IsRenumbere
   pub goes_back : (m h : ℕ) → GoesTo other m h → GoesTo plan m (back h)
   goes_back m h goes = goes_here m (back h) (subst (λ k. GoesTo other m k) (sym (is.there_again h)) goes)
 
+  -- ---- what takes time
+  pub takes_too : (sender : Sender) (to : ℕ) → takes_time other (renumbered_sender renumber sender) (renumber to) ≡ takes_time plan sender to
+  takes_too Client to = refl
+  takes_too (Group g) to = elim (cases_Bool (g == to)) [
+    | inl home ↦
+        subst (λ (k : ℕ). takes_time other (Group (renumber k)) (renumber to) ≡ takes_time plan (Group k) to) (sym (eqb-true g to home)) (is.home to)
+    | inr away ↦ rw (same_number renumber back is.back_again g to, away) refl
+  ]
+
   -- ---- packets
   pub same_sent : (p : Packet) → is_sent other (renumbered_packet renumber p) ≡ is_sent plan p
   same_sent (Wait m) = ap (λ n. nat_lt 0 n) (is.messages m).wait
   same_sent (Multicast m g) =
-      ap₂ (λ (a b : Bool). a && not b) ((is.messages m).destinations g)
-      (ap (λ sender. is_sent_by (sent_by sender) (renumber g)) (is.messages m).sender ∙ sent_too renumber back is.back_again (message_at plan m).sender g)
+      ap₂ (λ (a b : Bool). a && b) ((is.messages m).destinations g)
+      (ap (λ (s : Sender). takes_time other s (renumber g)) (is.messages m).sender ∙ takes_too (message_at plan m).sender g)
   same_sent (Propose m h g) =
       ap₂ (λ (a b : Bool). a && b && not (renumber h == renumber g)) ((is.messages m).destinations h) ((is.messages m).destinations g)
       ∙ ap (λ (b : Bool). is_addressed (message_at plan m) h && is_addressed (message_at plan m) g && not b) (same_number renumber back is.back_again h g)
@@ -79,6 +89,7 @@ module _ (renumber back : ℕ → ℕ) (plan other : Scenario) (is : IsRenumbere
     time = sym is.time;
     message_count = sym is.message_count;
     messages = message_back;
+    home = λ g. sym (is.home (back g)) ∙ ap (λ (k : ℕ). takes_time other (Group k) k) (is.there_again g);
     ranges = λ sender to.
         sym (is.ranges (renumbered_sender back sender) (back to))
         ∙ ap₂ (range_between other) (sender_again back renumber is.there_again sender) (is.there_again to);

@@ -25,7 +25,7 @@ pub record AreInStep (renumber : ℕ → ℕ) (plan : Scenario) (schedule : Sche
       → is_before (commit_of other run q (renumber g)) (arrival_of other run z (renumber g)) ≡ is_before (commit_of plan schedule q g) (arrival_of plan schedule z g)
 
 -- a moment of that kind
-abbrev moment_at : MomentKind → ℕ → ℕ → ℕ → ℕ → Moment
+abbrev pub moment_at : MomentKind → ℕ → ℕ → ℕ → ℕ → Moment
 moment_at kind m g tick rank = record { tick = tick; rank = rank; kind = kind; message = m; group = g }
 
 never_less : (g : ℕ) → nat_lt g g ≡ false

@@ -2,7 +2,7 @@
 use Rattle.std.specs.Prelude.{◌≡◌, ℕ, length}
 use Rattle.convoy_scenario.specs.declared.sender.Sender.{Sender}
 use Rattle.convoy_scenario.specs.declared.sender.Sender.TheVariants.{Client, Group}
-use Rattle.convoy_scenario.specs.Scenario.{Message, Scenario, message_at, is_addressed, range_between}
+use Rattle.convoy_scenario.specs.Scenario.{Message, Scenario, message_at, is_addressed, range_between, takes_time}
 
 -- the sender, where each group goes by another number
 abbrev pub renumbered_sender : (ℕ → ℕ) → Sender → Sender
@@ -16,13 +16,14 @@ pub record IsRenumberedMessage (renumber : ℕ → ℕ) (message other : Message
   pub at : other.at ≡ message.at
   pub wait : other.longest_wait ≡ message.longest_wait
 
--- each group of the scenario goes by its new number in the other one, and by `back` of that in the scenario; time, messages, the range between any two places, and the target are the same
+-- each group of the scenario goes by its new number in the other one, and by `back` of that in the scenario; time, messages, which groups have links to themselves, the range between any two places, and the target are the same
 pub record IsRenumbered (renumber back : ℕ → ℕ) (scenario other : Scenario) : Type 0 where
   pub back_again : (g : ℕ) → back (renumber g) ≡ g
   pub there_again : (g : ℕ) → renumber (back g) ≡ g
   pub time : other.time ≡ scenario.time
   pub message_count : length other.multicasts ≡ length scenario.multicasts
   pub messages : (m : ℕ) → IsRenumberedMessage renumber (message_at scenario m) (message_at other m)
+  pub home : (g : ℕ) → takes_time other (Group (renumber g)) (renumber g) ≡ takes_time scenario (Group g) g
   pub ranges : (sender : Sender) (to : ℕ) → range_between other (renumbered_sender renumber sender) (renumber to) ≡ range_between scenario sender to
   pub target_message : other.target_message ≡ scenario.target_message
   pub target_group : other.target_group ≡ renumber scenario.target_group

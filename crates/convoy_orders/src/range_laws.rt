@@ -4,13 +4,17 @@
 ghost use Rattle.convoy_orders.specs.NarrowerDrafts.{NarrowerLinksAreNoSlower};
 ghost use Rattle.convoy_orders.specs.NarrowerRanges.{NarrowerIsNoSlower, NarrowerRunsAreRuns};
 
-use convoy_scenario::scenario_laws::order_keeps_ranges;
+use convoy_scenario::scenario_laws::{
+    homes_decide_what_takes_time, order_keeps_ranges, order_keeps_what_takes_time,
+};
 
 /// Each run with narrower ranges is one with the wider ranges, in which every message takes as long to
 /// every group.
 pub fn narrower_runs_are_runs()
     ensures { NarrowerRunsAreRuns }
-{}
+{
+    homes_decide_what_takes_time();
+}
 
 /// A latency that a message never exceeds at a group is not exceeded with narrower ranges either. So to
 /// widen a range never lowers the greatest latency.
@@ -26,5 +30,6 @@ pub fn narrower_links_are_no_slower()
     ensures { NarrowerLinksAreNoSlower }
 {
     order_keeps_ranges();
+    order_keeps_what_takes_time();
     narrower_is_no_slower();
 }

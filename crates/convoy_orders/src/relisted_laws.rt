@@ -7,7 +7,9 @@ ghost use Rattle.convoy_orders.specs.RelistedOrders.{CeilingOfDraftIsSame, NoOrd
 ghost use Rattle.convoy_orders.specs.RelistedOrders.{TargetListedLastIsBest, TargetListedLastIsLeast};
 
 use crate::order_laws::{ceiling_is_same, last_listed_is_best, no_order_is_below};
-use convoy_scenario::scenario_laws::{drafts_give_scenarios, order_keeps_ranges};
+use convoy_scenario::scenario_laws::{
+    drafts_give_scenarios, order_keeps_ranges, order_keeps_what_takes_time,
+};
 
 /// A draft and the same draft with its groups listed in another order give two scenarios that are one but
 /// for the numbers of the groups.
@@ -15,6 +17,7 @@ pub fn relisted_drafts_are_renumbered()
     ensures { RelistedDraftsAreRenumbered }
 {
     order_keeps_ranges();
+    order_keeps_what_takes_time();
 }
 
 /// What keeps the rules for a scenario keeps them with its groups listed in any other order.

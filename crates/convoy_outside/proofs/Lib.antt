@@ -3,3 +3,4 @@ mod Late
 mod SameSums
 mod Rows
 mod Sums
+mod Led

@@ -2,7 +2,7 @@
 use Rattle.std.proofs.Common.{◌≡◌, refl, true, false, [], ◌∷◌, Some, None, ℕ, List, codes}
 use Rattle.std.specs.Fmt.{digits}
 use Rattle.convoy_draft.specs.declared.time.Time.TheVariants.{Real}
-use Rattle.convoy_scenario.specs.declared.sender.Sender.TheVariants.{Client}
+use Rattle.convoy_scenario.specs.declared.sender.Sender.TheVariants.{Client, Group}
 use Rattle.convoy_scenario.specs.Scenario.{Message, Scenario}
 use Rattle.convoy_packets.specs.declared.packet.Packet.TheVariants.{Wait, Multicast, Propose}
 use Rattle.convoy_packets.specs.Packets.{packets_of}
@@ -43,6 +43,32 @@ sum_of_all = refl
 some_alone : outside_told (between 3 ∷ []) scenario ≡ Some 6
 unfolding outside_of packets_of
 some_alone = refl
+
+-- a's own message to a and b, where a has a link to itself with a share of its own: two packets of the message, and two stamps
+abbrev own_scenario : Scenario
+own_scenario = record scenario {
+  links = record { sender = Group 0; to = 0; least = 2; most = 3 } ∷ [];
+  multicasts = record message { sender = Group 0; longest_wait = 0 } ∷ [];
+}
+
+abbrev to_itself : ℕ → LinkShare
+to_itself billionths = record { ends = record { senders = Some (a ∷ []); to = a ∷ []; both = false }; billionths = billionths }
+
+-- from each of the two groups to the other, and not to itself
+abbrev to_each_other : ℕ → LinkShare
+to_each_other billionths = record { ends = record { senders = Some (a ∷ b ∷ []); to = a ∷ b ∷ []; both = false }; billionths = billionths }
+
+of_own_message : (share_of (to_each_other 3 ∷ to_itself 5 ∷ []) own_scenario (Multicast 0 0) ≡ 5) × (share_of (to_each_other 3 ∷ to_itself 5 ∷ []) own_scenario (Multicast 0 1) ≡ 3)
+of_own_message = (refl, refl)
+
+own_message_counts : outside_told (to_each_other 3 ∷ to_itself 5 ∷ []) own_scenario ≡ Some 14
+unfolding outside_of packets_of
+own_message_counts = refl
+
+-- without the link it takes no time, and leaves no range
+own_message_at_once : outside_told (to_each_other 3 ∷ to_itself 5 ∷ []) (record own_scenario { links = [] }) ≡ Some 9
+unfolding outside_of packets_of
+own_message_at_once = refl
 
 no_more_than_all : outside_told (from_clients 600000000 ∷ []) scenario ≡ Some 1000000000
 unfolding outside_of packets_of

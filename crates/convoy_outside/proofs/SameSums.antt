@@ -6,22 +6,24 @@ use Rattle.std.proofs.lemmas.List.Sums.{sum_by-append, sum_by-cons}
 use Rattle.convoy_scenario.specs.declared.sender.Sender.{Sender}
 use Rattle.convoy_scenario.specs.declared.sender.Sender.TheVariants.{Client, Group}
 use Rattle.convoy_scenario.specs.Naming.{sender_name}
-use Rattle.convoy_scenario.specs.Scenario.{Message, Scenario, may_wait, message_at}
+use Rattle.convoy_scenario.specs.Scenario.{Message, Scenario, may_wait, message_at, takes_time}
+use Rattle.convoy_scenario.proofs.TakingTime.{same_takes}
 use Rattle.convoy_packets.specs.declared.packet.Packet.{Packet}
 use Rattle.convoy_packets.specs.declared.packet.Packet.TheVariants.{Wait, Multicast, Propose}
 use Rattle.convoy_packets.specs.Packets.{message_packets, multicast_packets, packets_of, propose_packets, wait_packets}
 use Rattle.convoy_sim.specs.Greatest.{IsUpper}
 use Rattle.convoy_laws.specs.FinerTicks.{IsFiner, IsFinerMessage, ScenariosAreRoundable, WholeTicksAreEnough}
 use Rattle.convoy_laws.proofs.SameParts.{same_message}
+use Rattle.convoy_laws.proofs.Stretched.{same_sends}
 use Rattle.convoy_toml.specs.declared.share.TheConstants.{WHOLE_SHARE}
 use Rattle.convoy_toml.specs.Outside.{LinkShare}
 use Rattle.convoy_outside.specs.Sums.{outside_of, share_of}
 use Rattle.convoy_outside.specs.OutsideLaws.{LateFinerRunsAreFew, LateRunsAreFew}
 
 -- what travels of a message, which tells who sends it and where it goes
-abbrev travelling : ℕ → Sender → List ℕ → List Packet
-travelling m sender destinations =
-    multicast_packets m (record { name = []; sender = sender; destinations = destinations; at = 0; longest_wait = 0 })
+abbrev travelling : Scenario → ℕ → Sender → List ℕ → List Packet
+travelling plan m sender destinations =
+    multicast_packets plan m (record { name = []; sender = sender; destinations = destinations; at = 0; longest_wait = 0 })
     ++ flat_map (propose_packets m (record { name = []; sender = sender; destinations = destinations; at = 0; longest_wait = 0 })) destinations
 
 module _ (f : Packet → ℕ) (light : (m : ℕ) → f (Wait m) ≡ 0) where
@@ -31,20 +33,22 @@ module _ (f : Packet → ℕ) (light : (m : ℕ) → f (Wait m) ≡ 0) where
     | inr known ↦ rw known refl
   ]
 
-  message_sum : (m : ℕ) (message : Message) → sum_by f (message_packets m message) ≡ sum_by f (travelling m message.sender message.destinations)
-  message_sum m message =
-      omega (arith, sum_by-append f (wait_packets m message) (travelling m message.sender message.destinations), wait_sum m message)
+  message_sum : (plan : Scenario) (m : ℕ) (message : Message) → sum_by f (message_packets plan m message) ≡ sum_by f (travelling plan m message.sender message.destinations)
+  message_sum plan m message =
+      omega (arith, sum_by-append f (wait_packets m message) (travelling plan m message.sender message.destinations), wait_sum m message)
 
-  sums_in : (k n : ℕ) (xs ys : List Message) → AllZip (IsFinerMessage k) xs ys
-      → sum_by f (flat_map (λ p. message_packets p.0 p.1) (enumerate_from n ys)) ≡ sum_by f (flat_map (λ p. message_packets p.0 p.1) (enumerate_from n xs))
-  sums_in k n [] [] h = refl
-  sums_in k n [] (y ∷ ys) h = absurd h
-  sums_in k n (x ∷ xs) [] h = absurd h
-  sums_in k n (x ∷ xs) (y ∷ ys) h =
-      let one = sum_by-append f (message_packets n x) (flat_map (λ p. message_packets p.0 p.1) (enumerate_from (n + 1) xs)) in
-      let other = sum_by-append f (message_packets n y) (flat_map (λ p. message_packets p.0 p.1) (enumerate_from (n + 1) ys)) in
-      let same = ap₂ (λ sender destinations. sum_by f (travelling n sender destinations)) h.0.sender h.0.destinations in
-      omega (arith, one, other, same, message_sum n x, message_sum n y, sums_in k (n + 1) xs ys h.1)
+  module _ (k : ℕ) (plan fine : Scenario) (takes : (sender : Sender) (to : ℕ) → takes_time fine sender to ≡ takes_time plan sender to) where
+    sums_in : (n : ℕ) (xs ys : List Message) → AllZip (IsFinerMessage k) xs ys
+        → sum_by f (flat_map (λ p. message_packets fine p.0 p.1) (enumerate_from n ys)) ≡ sum_by f (flat_map (λ p. message_packets plan p.0 p.1) (enumerate_from n xs))
+    sums_in n [] [] h = refl
+    sums_in n [] (y ∷ ys) h = absurd h
+    sums_in n (x ∷ xs) [] h = absurd h
+    sums_in n (x ∷ xs) (y ∷ ys) h =
+        let one = sum_by-append f (message_packets plan n x) (flat_map (λ p. message_packets plan p.0 p.1) (enumerate_from (n + 1) xs)) in
+        let other = sum_by-append f (message_packets fine n y) (flat_map (λ p. message_packets fine p.0 p.1) (enumerate_from (n + 1) ys)) in
+        let sends = ap (λ (packets : List Packet). sum_by f packets) (same_sends plan fine takes n y) in
+        let same = ap₂ (λ sender destinations. sum_by f (travelling plan n sender destinations)) h.0.sender h.0.destinations in
+        omega (arith, one, other, sends, same, message_sum plan n x, message_sum plan n y, sums_in (n + 1) xs ys h.1)
 
 pointwise : (f g : Packet → ℕ) → ((p : Packet) → f p ≡ g p) → (ps : List Packet) → sum_by f ps ≡ sum_by g ps
 pointwise f g same [] = refl
@@ -67,7 +71,7 @@ module _ (times : ℕ) (shares : List LinkShare) (scenario finer : Scenario) (is
   same_sum =
       ap (λ n. min n WHOLE_SHARE)
       (pointwise (share_of shares finer) (share_of shares scenario) same_share (packets_of finer)
-      ∙ sums_in (share_of shares scenario) (λ m. refl) times 0 scenario.multicasts finer.multicasts is.messages)
+      ∙ sums_in (share_of shares scenario) (λ m. refl) times scenario finer (same_takes scenario finer is.home) 0 scenario.multicasts finer.multicasts is.messages)
 
 pub finer_are_few : LateRunsAreFew → ScenariosAreRoundable → WholeTicksAreEnough → LateFinerRunsAreFew
 finer_are_few few roundable enough times shares scenario finer upper runs well real is groups up are =

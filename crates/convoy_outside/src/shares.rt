@@ -1,10 +1,12 @@
 //! The shares of packets, and their sum.
 
-ghost use Rattle.std.specs.Prelude.{◌≡◌, ◌&&◌, ◌≤◌, find, option_map, IfSome};
+ghost use Rattle.std.specs.Prelude.{◌≡◌, ◌&&◌, ◌≤◌, find, option_map, Some, IfSome};
+ghost use Rattle.std.specs.List.{list_all};
 ghost use Rattle.std.specs.Option.{option_copied};
-ghost use Rattle.convoy_draft.specs.Checks.{is_among};
+ghost use Rattle.std.specs.Str.{bytes_eq};
+ghost use Rattle.convoy_draft.specs.Checks.{is_among, is_named_alike};
 ghost use Rattle.convoy_scenario.specs.Naming.{sender_name};
-ghost use Rattle.convoy_outside.specs.Sums.{leads, outside_of, outside_told, share_between, share_of};
+ghost use Rattle.convoy_outside.specs.Sums.{leads, name_home, name_way, outside_of, outside_told, share_between, share_of};
 
 use convoy_packets::{Instance, Packet};
 use convoy_scenario::lookup::sender_of;
@@ -82,9 +84,51 @@ fn leading<'a>(shares: &'a [LinkShare], sender: Option<&str>, to: &str) -> Optio
     shares.iter().find(|share| leads(&share.ends, sender, to))
 }
 
-/// Whether links with these ends lead from the one place to the other.
+/// Whether links with these ends lead from the one place to the other: from a group to itself only where they lead to no
+/// other place.
 fn leads(ends: &LinkEnds, sender: Option<&str>, to: &str) -> bool
     ensures { result ≡ leads ends.now (option_map (λ name. name.now) sender.entry) to.now }
+{
+    name_way(ends, sender, to) && (!is_named_alike(sender, to) || name_home(ends))
+}
+
+/// Whether both places are one group.
+fn is_named_alike(sender: Option<&str>, to: &str) -> bool
+    ensures { result ≡ is_named_alike (option_map (λ name. name.now) sender.entry) (Some to.now) }
+{
+    match sender {
+        Some(name) => name == to,
+        None => false,
+    }
+}
+
+/// Whether the ends name no way but that from one group to itself.
+fn name_home(ends: &LinkEnds) -> bool
+    ensures { result ≡ name_home ends.now }
+{
+    match &ends.senders {
+        Some(names) => are_alike(names, &ends.to),
+        None => false,
+    }
+}
+
+/// Whether each of the names is each of the others.
+fn are_alike(names: &[Name], others: &[Name]) -> bool
+    ensures { result ≡ list_all (λ name. list_all (bytes_eq name) others.now) names.now }
+{
+    names.iter().all(|name| are_all(name, others))
+}
+
+/// Whether the names are all the same one.
+fn are_all(name: &Name, names: &[Name]) -> bool
+    ensures { result ≡ list_all (bytes_eq name.now) names.now }
+{
+    names.iter().all(|other| name.is_same(other))
+}
+
+/// Whether the ends name the way from the one place to the other.
+fn name_way(ends: &LinkEnds, sender: Option<&str>, to: &str) -> bool
+    ensures { result ≡ name_way ends.now (option_map (λ name. name.now) sender.entry) to.now }
 {
     match (&ends.senders, sender) {
         (None, None) => is_among(to, &ends.to),

@@ -10,7 +10,7 @@ use Rattle.std.proofs.lemmas.List.Filters.{length-filter_both}
 use Rattle.std.proofs.lemmas.List.FromFn.{length-enumerate_from}
 use Rattle.std.proofs.lemmas.List.Kept.{AllPairs-cons, AllPairs-filter, AllPairs-from_increasing}
 use Rattle.std.proofs.lemmas.List.Sums.{length-filter, count_by-le-length, get_or-le-sum_by, sum_by-le}
-use Rattle.convoy_scenario.specs.Scenario.{Message, Scenario, is_sent_by, may_wait}
+use Rattle.convoy_scenario.specs.Scenario.{Message, Scenario, takes_time, may_wait}
 use Rattle.convoy_scenario.specs.WellFormed.{IsMulticast, IsScenario}
 use Rattle.convoy_packets.specs.declared.packet.Packet.{Packet}
 use Rattle.convoy_packets.specs.declared.packet.Packet.TheVariants.{Wait, Multicast, Propose}
@@ -62,22 +62,22 @@ each_wait P m message h =
       | false ↦ All-nil P
     ]
 
-module _ (m : ℕ) (message : Message) where
+module _ (plan : Scenario) (m : ℕ) (message : Message) where
   pub are_waits : All (λ p. is_wait p ≡ true) (wait_packets m message)
   are_waits = each_wait (λ p. is_wait p ≡ true) m message refl
 
-  pub are_sent_off : All (λ p. is_wait p ≡ false) (multicast_packets m message ++ flat_map (propose_packets m message) message.destinations)
+  pub are_sent_off : All (λ p. is_wait p ≡ false) (multicast_packets plan m message ++ flat_map (propose_packets m message) message.destinations)
   are_sent_off =
-      All-append (λ p. is_wait p ≡ false) (multicast_packets m message) (flat_map (propose_packets m message) message.destinations)
-      (All-map (λ p. is_wait p ≡ false) (λ g. Multicast m g) (filter (λ g. not (is_sent_by message g)) message.destinations)
+      All-append (λ p. is_wait p ≡ false) (multicast_packets plan m message) (flat_map (propose_packets m message) message.destinations)
+      (All-map (λ p. is_wait p ≡ false) (λ g. Multicast m g) (filter (takes_time plan message.sender) message.destinations)
       (λ k d l. refl))
       (All-flat_map (λ p. is_wait p ≡ false) (propose_packets m message) message.destinations
       (λ k d l. All-map (λ p. is_wait p ≡ false) (λ g. Propose m (get_or message.destinations k d) g)
       (filter (λ g. not (get_or message.destinations k d == g)) message.destinations) (λ i e h. refl)))
 
-  pub are_multicasts : All (λ p. is_multicast p ≡ true) (multicast_packets m message)
+  pub are_multicasts : All (λ p. is_multicast p ≡ true) (multicast_packets plan m message)
   are_multicasts =
-      All-map (λ p. is_multicast p ≡ true) (λ g. Multicast m g) (filter (λ g. not (is_sent_by message g)) message.destinations)
+      All-map (λ p. is_multicast p ≡ true) (λ g. Multicast m g) (filter (takes_time plan message.sender) message.destinations)
       (λ k d l. refl)
 
   pub are_stamps : All (λ p. is_multicast p ≡ false) (flat_map (propose_packets m message) message.destinations)
@@ -86,22 +86,22 @@ module _ (m : ℕ) (message : Message) where
       (λ k d l. All-map (λ p. is_multicast p ≡ false) (λ g. Propose m (get_or message.destinations k d) g)
       (filter (λ g. not (get_or message.destinations k d == g)) message.destinations) (λ i e h. refl))
 
-  of_message : All (λ p. message_of p ≡ m) (message_packets m message)
+  of_message : All (λ p. message_of p ≡ m) (message_packets plan m message)
   of_message =
-      All-append (λ p. message_of p ≡ m) (wait_packets m message) (multicast_packets m message ++ flat_map (propose_packets m message) message.destinations)
+      All-append (λ p. message_of p ≡ m) (wait_packets m message) (multicast_packets plan m message ++ flat_map (propose_packets m message) message.destinations)
       (each_wait (λ p. message_of p ≡ m) m message refl)
-      (All-append (λ p. message_of p ≡ m) (multicast_packets m message) (flat_map (propose_packets m message) message.destinations)
-      (All-map (λ p. message_of p ≡ m) (λ g. Multicast m g) (filter (λ g. not (is_sent_by message g)) message.destinations)
+      (All-append (λ p. message_of p ≡ m) (multicast_packets plan m message) (flat_map (propose_packets m message) message.destinations)
+      (All-map (λ p. message_of p ≡ m) (λ g. Multicast m g) (filter (takes_time plan message.sender) message.destinations)
       (λ k d l. refl))
       (All-flat_map (λ p. message_of p ≡ m) (propose_packets m message) message.destinations
       (λ k d l. All-map (λ p. message_of p ≡ m) (λ g. Propose m (get_or message.destinations k d) g)
       (filter (λ g. not (get_or message.destinations k d == g)) message.destinations) (λ i e h. refl))))
 
-module _ (m : ℕ) (message : Message) (groups : ℕ) (few : groups ≤ 8) (is : IsMulticast groups message) where
-  multicasts_within : m < 16 → HaveSlots (multicast_packets m message)
+module _ (plan : Scenario) (m : ℕ) (message : Message) (groups : ℕ) (few : groups ≤ 8) (is : IsMulticast groups message) where
+  multicasts_within : m < 16 → HaveSlots (multicast_packets plan m message)
   multicasts_within low =
-      All-map (λ p. is_within_limits p ≡ true) (λ g. Multicast m g) (filter (λ g. not (is_sent_by message g)) message.destinations)
-      (All-filter (λ g. not (is_sent_by message g)) (λ g. is_within_limits (Multicast m g) ≡ true) message.destinations
+      All-map (λ p. is_within_limits p ≡ true) (λ g. Multicast m g) (filter (takes_time plan message.sender) message.destinations)
+      (All-filter (takes_time plan message.sender) (λ g. is_within_limits (Multicast m g) ≡ true) message.destinations
       (λ k d l. let known = is.known k d l in multicast_within m (get_or message.destinations k d) low (omega arith)))
 
   proposals_within : m < 16 → (h : ℕ) → h < 8 → HaveSlots (propose_packets m message h)
@@ -110,11 +110,11 @@ module _ (m : ℕ) (message : Message) (groups : ℕ) (few : groups ≤ 8) (is :
       (All-filter (λ g. not (h == g)) (λ g. is_within_limits (Propose m h g) ≡ true) message.destinations
       (λ k d l. let known = is.known k d l in propose_within m h (get_or message.destinations k d) low at (omega arith)))
 
-  message_within : m < 16 → HaveSlots (message_packets m message)
+  message_within : m < 16 → HaveSlots (message_packets plan m message)
   message_within low =
-      All-append (λ p. is_within_limits p ≡ true) (wait_packets m message) (multicast_packets m message ++ flat_map (propose_packets m message) message.destinations)
+      All-append (λ p. is_within_limits p ≡ true) (wait_packets m message) (multicast_packets plan m message ++ flat_map (propose_packets m message) message.destinations)
       (each_wait (λ p. is_within_limits p ≡ true) m message (wait_within m low))
-      (All-append (λ p. is_within_limits p ≡ true) (multicast_packets m message) (flat_map (propose_packets m message) message.destinations)
+      (All-append (λ p. is_within_limits p ≡ true) (multicast_packets plan m message) (flat_map (propose_packets m message) message.destinations)
       (multicasts_within low)
       (All-flat_map (λ p. is_within_limits p ≡ true) (propose_packets m message) message.destinations
       (λ k d l. let known = is.known k d l in proposals_within low (get_or message.destinations k d) (omega arith))))
@@ -122,9 +122,9 @@ module _ (m : ℕ) (message : Message) (groups : ℕ) (few : groups ≤ 8) (is :
   length-destinations : length message.destinations ≤ 8
   length-destinations = let most = length-increasing-le message.destinations groups is.ascending is.known in omega arith
 
-  length-multicasts : length (multicast_packets m message) ≤ length message.destinations
+  length-multicasts : length (multicast_packets plan m message) ≤ length message.destinations
   length-multicasts =
-      let p = λ (g : ℕ). not (is_sent_by message g) in
+      let p = takes_time plan message.sender in
       rw (length-map, length-filter) (count_by-le-length p message.destinations)
 
   -- a destination sends no stamp to itself
@@ -143,7 +143,7 @@ module _ (m : ℕ) (message : Message) (groups : ℕ) (few : groups ≤ 8) (is :
   length-waits : length (wait_packets m message) ≤ 1
   length-waits = elim (may_wait message) as (λ b. length (cond b (Wait m ∷ []) []) ≤ 1) [ true ↦ omega arith | false ↦ omega arith ]
 
-  length-travelling : length (multicast_packets m message ++ flat_map (propose_packets m message) message.destinations) ≤ 64
+  length-travelling : length (multicast_packets plan m message ++ flat_map (propose_packets m message) message.destinations) ≤ 64
   length-travelling =
       let gs = message.destinations in
       let all = sum_by-le (λ h. length (propose_packets m message h)) 7 gs length-proposals in
@@ -151,10 +151,10 @@ module _ (m : ℕ) (message : Message) (groups : ℕ) (few : groups ≤ 8) (is :
       let most = length-destinations in
       rw (length-append, length-flat_map) (omega arith)
 
-  length-message : length (message_packets m message) ≤ 65
+  length-message : length (message_packets plan m message) ≤ 65
   length-message = let first = length-waits in let rest = length-travelling in rw length-append (omega arith)
 
-  length-unwaiting : may_wait message ≡ false → length (message_packets m message) ≤ 64
+  length-unwaiting : may_wait message ≡ false → length (message_packets plan m message) ≤ 64
   length-unwaiting none = rw none length-travelling
 
   destinations_differ : AllPairs (λ g h. g ≡ h → ⊥) message.destinations
@@ -162,10 +162,10 @@ module _ (m : ℕ) (message : Message) (groups : ℕ) (few : groups ≤ 8) (is :
       AllPairs-weaker (λ g h. g < h) (λ g h. g ≡ h → ⊥) message.destinations (λ g h l e. omega arith)
       (AllPairs-from_increasing message.destinations is.ascending)
 
-  multicasts_differ : AllPairs (λ p q. p ≡ q → ⊥) (multicast_packets m message)
+  multicasts_differ : AllPairs (λ p q. p ≡ q → ⊥) (multicast_packets plan m message)
   multicasts_differ =
-      AllPairs-map (λ p q. p ≡ q → ⊥) (λ g. Multicast m g) (filter (λ g. not (is_sent_by message g)) message.destinations)
-      (AllPairs-filter (λ g h. Multicast m g ≡ Multicast m h → ⊥) (λ g. not (is_sent_by message g)) message.destinations
+      AllPairs-map (λ p q. p ≡ q → ⊥) (λ g. Multicast m g) (filter (takes_time plan message.sender) message.destinations)
+      (AllPairs-filter (λ g h. Multicast m g ≡ Multicast m h → ⊥) (takes_time plan message.sender) message.destinations
       (AllPairs-weaker (λ g h. g ≡ h → ⊥) (λ g h. Multicast m g ≡ Multicast m h → ⊥) message.destinations
       (λ g h ne e. ne cc) destinations_differ))
 
@@ -183,45 +183,45 @@ module _ (m : ℕ) (message : Message) (groups : ℕ) (few : groups ≤ 8) (is :
         | false ↦ AllPairs-nil (λ p q. p ≡ q → ⊥)
       ]
 
-  travelling_differ : AllPairs (λ p q. p ≡ q → ⊥) (multicast_packets m message ++ flat_map (propose_packets m message) message.destinations)
+  travelling_differ : AllPairs (λ p q. p ≡ q → ⊥) (multicast_packets plan m message ++ flat_map (propose_packets m message) message.destinations)
   travelling_differ =
-      AllPairs-append (λ p q. p ≡ q → ⊥) (multicast_packets m message) (flat_map (propose_packets m message) message.destinations)
+      AllPairs-append (λ p q. p ≡ q → ⊥) (multicast_packets plan m message) (flat_map (propose_packets m message) message.destinations)
       multicasts_differ
       (AllPairs-flat_map (λ h. h) sender_of (propose_packets m message) message.destinations
       (λ h. All-map (λ p. sender_of p ≡ h) (λ g. Propose m h g) (filter (λ g. not (h == g)) message.destinations) (λ k d l. refl))
       (λ k d l. proposals_differ (get_or message.destinations k d))
       destinations_differ)
-      (λ k d l i e h same. true≢false (sym (are_multicasts m message k d l) ∙ ap is_multicast same ∙ are_stamps m message i e h))
+      (λ k d l i e h same. true≢false (sym (are_multicasts plan m message k d l) ∙ ap is_multicast same ∙ are_stamps plan m message i e h))
 
-  message_differs : AllPairs (λ p q. p ≡ q → ⊥) (message_packets m message)
+  message_differs : AllPairs (λ p q. p ≡ q → ⊥) (message_packets plan m message)
   message_differs =
-      AllPairs-append (λ p q. p ≡ q → ⊥) (wait_packets m message) (multicast_packets m message ++ flat_map (propose_packets m message) message.destinations)
+      AllPairs-append (λ p q. p ≡ q → ⊥) (wait_packets m message) (multicast_packets plan m message ++ flat_map (propose_packets m message) message.destinations)
       waits_differ travelling_differ
-      (λ k d l i e h same. true≢false (sym (are_waits m message k d l) ∙ ap is_wait same ∙ are_sent_off m message i e h))
+      (λ k d l i e h same. true≢false (sym (are_waits plan m message k d l) ∙ ap is_wait same ∙ are_sent_off plan m message i e h))
 
 -- where no message waits, all packets travel
 pub all_travel : (plan : Scenario) → list_any may_wait plan.multicasts ≡ false → All (λ p. is_wait p ≡ false) (packets_of plan)
 unfolding packets_of
 all_travel plan none =
-    All-flat_map (λ p. is_wait p ≡ false) (λ p. message_packets p.0 p.1) (enumerate_from 0 plan.multicasts)
-    (All-numbered (λ p. All (λ q. is_wait q ≡ false) (message_packets p.0 p.1)) plan.multicasts
-    (λ k d l. let unwaiting = none_at may_wait plan.multicasts k d none l in rw unwaiting (are_sent_off k (get_or plan.multicasts k d))))
+    All-flat_map (λ p. is_wait p ≡ false) (λ p. message_packets plan p.0 p.1) (enumerate_from 0 plan.multicasts)
+    (All-numbered (λ p. All (λ q. is_wait q ≡ false) (message_packets plan p.0 p.1)) plan.multicasts
+    (λ k d l. let unwaiting = none_at may_wait plan.multicasts k d none l in rw unwaiting (are_sent_off plan k (get_or plan.multicasts k d))))
 
 module _ (plan : Scenario) (is : IsScenario plan) where
   pub packets_within : HaveSlots (packets_of plan)
   unfolding packets_of
   packets_within =
-      All-flat_map (λ p. is_within_limits p ≡ true) (λ p. message_packets p.0 p.1) (enumerate_from 0 plan.multicasts)
-      (All-numbered (λ p. HaveSlots (message_packets p.0 p.1)) plan.multicasts
+      All-flat_map (λ p. is_within_limits p ≡ true) (λ p. message_packets plan p.0 p.1) (enumerate_from 0 plan.multicasts)
+      (All-numbered (λ p. HaveSlots (message_packets plan p.0 p.1)) plan.multicasts
       (λ k d l. let low = is.multicasts_high in
-      message_within k (get_or plan.multicasts k d) (length plan.groups) is.groups_high (is.messages k d l) (omega arith)))
+      message_within plan k (get_or plan.multicasts k d) (length plan.groups) is.groups_high (is.messages k d l) (omega arith)))
 
   pub length-packets_of-le : length (packets_of plan) ≤ 1040
   unfolding packets_of
   length-packets_of-le =
-      let each = sum_by-le (λ p. length (message_packets p.0 p.1)) 65 (enumerate_from 0 plan.multicasts)
-      (All-numbered (λ p. length (message_packets p.0 p.1) ≤ 65) plan.multicasts
-      (λ k d l. length-message k (get_or plan.multicasts k d) (length plan.groups) is.groups_high (is.messages k d l))) in
+      let each = sum_by-le (λ p. length (message_packets plan p.0 p.1)) 65 (enumerate_from 0 plan.multicasts)
+      (All-numbered (λ p. length (message_packets plan p.0 p.1) ≤ 65) plan.multicasts
+      (λ k d l. length-message plan k (get_or plan.multicasts k d) (length plan.groups) is.groups_high (is.messages k d l))) in
       let few = is.multicasts_high in
       let long = length-enumerate_from 0 plan.multicasts in
       rw length-flat_map (omega arith)
@@ -230,9 +230,9 @@ module _ (plan : Scenario) (is : IsScenario plan) where
   pub length-packets_of-unwaiting : list_any may_wait plan.multicasts ≡ false → length (packets_of plan) ≤ 1024
   unfolding packets_of
   length-packets_of-unwaiting none =
-      let each = sum_by-le (λ p. length (message_packets p.0 p.1)) 64 (enumerate_from 0 plan.multicasts)
-      (All-numbered (λ p. length (message_packets p.0 p.1) ≤ 64) plan.multicasts
-      (λ k d l. length-unwaiting k (get_or plan.multicasts k d) (length plan.groups) is.groups_high (is.messages k d l) (none_at may_wait plan.multicasts k d none l))) in
+      let each = sum_by-le (λ p. length (message_packets plan p.0 p.1)) 64 (enumerate_from 0 plan.multicasts)
+      (All-numbered (λ p. length (message_packets plan p.0 p.1) ≤ 64) plan.multicasts
+      (λ k d l. length-unwaiting plan k (get_or plan.multicasts k d) (length plan.groups) is.groups_high (is.messages k d l) (none_at may_wait plan.multicasts k d none l))) in
       let few = is.multicasts_high in
       let long = length-enumerate_from 0 plan.multicasts in
       rw length-flat_map (omega arith)
@@ -240,9 +240,9 @@ module _ (plan : Scenario) (is : IsScenario plan) where
   pub packets_differ : AllPairs (λ p q. p ≡ q → ⊥) (packets_of plan)
   unfolding packets_of
   packets_differ =
-      AllPairs-flat_map (λ p. p.0) message_of (λ p. message_packets p.0 p.1) (enumerate_from 0 plan.multicasts)
-      (λ p. of_message p.0 p.1)
-      (All-numbered (λ p. AllPairs (λ a b. a ≡ b → ⊥) (message_packets p.0 p.1)) plan.multicasts
-      (λ k d l. message_differs k (get_or plan.multicasts k d) (length plan.groups) is.groups_high (is.messages k d l)))
+      AllPairs-flat_map (λ p. p.0) message_of (λ p. message_packets plan p.0 p.1) (enumerate_from 0 plan.multicasts)
+      (λ p. of_message plan p.0 p.1)
+      (All-numbered (λ p. AllPairs (λ a b. a ≡ b → ⊥) (message_packets plan p.0 p.1)) plan.multicasts
+      (λ k d l. message_differs plan k (get_or plan.multicasts k d) (length plan.groups) is.groups_high (is.messages k d l)))
       (AllPairs-weaker (λ p q. p.0 < q.0) (λ p q. p.0 ≡ q.0 → ⊥) (enumerate_from 0 plan.multicasts) (λ p q l e. omega arith)
       (numbers_rise 0 plan.multicasts))

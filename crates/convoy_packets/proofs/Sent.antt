@@ -5,7 +5,7 @@ use Rattle.std.specs.Option.{is_some}
 use Rattle.std.proofs.lemmas.Bool.{cases_eq, ne_eqb, eq-eqb, and_right, lt-ltb, true≢false, false≢true}
 use Rattle.std.proofs.lemmas.Bool.Decides.{nat_tests}
 use Rattle.std.proofs.lemmas.List.Folds.{list_any-append, list_any_none}
-use Rattle.convoy_scenario.specs.Scenario.{Message, Scenario, message_at, may_wait, no_message, is_sent_by, is_addressed}
+use Rattle.convoy_scenario.specs.Scenario.{Message, Scenario, message_at, may_wait, no_message, takes_time, is_addressed}
 use Rattle.convoy_packets.specs.declared.packet.Packet.{Packet}
 use Rattle.convoy_packets.specs.declared.packet.Packet.TheVariants.{Wait, Multicast, Propose}
 use Rattle.convoy_packets.specs.Packets.{wait_packets, multicast_packets, propose_packets, message_packets, packets_of, is_packet, is_wait, place_of}
@@ -67,15 +67,15 @@ any_numbered F S m n (suc k) (x ∷ xs) d h none e =
     rw (h (n, x), ne_eqb m n (λ same. omega arith)) (any_numbered F S m (n + 1) k xs d h none (omega arith))
 
 -- the message sends the packet, whatever its own number
-abbrev sends : Message → Packet → Bool
-sends message (Wait m) = may_wait message
-sends message (Multicast m g) = is_addressed message g && not (is_sent_by message g)
-sends message (Propose m h g) = is_addressed message h && is_addressed message g && not (h == g)
+abbrev sends : Scenario → Message → Packet → Bool
+sends plan message (Wait m) = may_wait message
+sends plan message (Multicast m g) = is_addressed message g && takes_time plan message.sender g
+sends plan message (Propose m h g) = is_addressed message h && is_addressed message g && not (h == g)
 
-unaddressed : (p : Packet) → sends no_message p ≡ false
-unaddressed (Wait m) = refl
-unaddressed (Multicast m g) = refl
-unaddressed (Propose m h g) = refl
+unaddressed : (plan : Scenario) (p : Packet) → sends plan no_message p ≡ false
+unaddressed plan (Wait m) = refl
+unaddressed plan (Multicast m g) = refl
+unaddressed plan (Propose m h g) = refl
 
 turned : (s e a : Bool) → ((s && e) && a) ≡ (e && (a && s))
 turned s e a = grind arith
@@ -108,42 +108,42 @@ no_packet (Propose m h g) (Wait n) e f = refl
 no_packet q (Multicast n k) e f = absurd (false≢true f)
 no_packet q (Propose n i k) e f = absurd (false≢true f)
 
-module _ (n : ℕ) (message : Message) where
+module _ (plan : Scenario) (n : ℕ) (message : Message) where
   travelling : List Packet
-  travelling = multicast_packets n message ++ flat_map (propose_packets n message) message.destinations
+  travelling = multicast_packets plan n message ++ flat_map (propose_packets n message) message.destinations
 
   -- what travels is not found among the waits
-  past_waits : (q : Packet) → is_wait q ≡ false → list_any (is_packet q) (message_packets n message) ≡ list_any (is_packet q) travelling
+  past_waits : (q : Packet) → is_wait q ≡ false → list_any (is_packet q) (message_packets plan n message) ≡ list_any (is_packet q) travelling
   unfolding travelling
   past_waits q other =
       list_any-append (is_packet q) (wait_packets n message) travelling
       ∙ ap (λ b. b || list_any (is_packet q) travelling)
-      (list_any_none (is_packet q) (wait_packets n message) (λ k d l. no_packet q (get_or (wait_packets n message) k d) other (are_waits n message k d l)))
+      (list_any_none (is_packet q) (wait_packets n message) (λ k d l. no_packet q (get_or (wait_packets n message) k d) other (are_waits plan n message k d l)))
 
-  wait_found : (m : ℕ) → list_any (is_packet (Wait m)) (message_packets n message) ≡ ((m == n) && sends message (Wait m))
+  wait_found : (m : ℕ) → list_any (is_packet (Wait m)) (message_packets plan n message) ≡ ((m == n) && sends plan message (Wait m))
   unfolding travelling
   wait_found m =
       list_any-append (is_packet (Wait m)) (wait_packets n message) travelling
       ∙ ap (λ b. list_any (is_packet (Wait m)) (wait_packets n message) || b)
-      (list_any_none (is_packet (Wait m)) travelling (λ k d l. not_wait m (get_or travelling k d) (are_sent_off n message k d l)))
+      (list_any_none (is_packet (Wait m)) travelling (λ k d l. not_wait m (get_or travelling k d) (are_sent_off plan n message k d l)))
       ∙ or_false (list_any (is_packet (Wait m)) (wait_packets n message))
       ∙ by_wait (may_wait message) where
         by_wait : (b : Bool) → list_any (is_packet (Wait m)) (cond b (Wait n ∷ []) []) ≡ ((m == n) && b)
         by_wait true = or_false (m == n) ∙ and_true (m == n)
         by_wait false = and_none (m == n)
 
-  multicast_found : (m g : ℕ) → list_any (is_packet (Multicast m g)) (message_packets n message) ≡ ((m == n) && sends message (Multicast m g))
+  multicast_found : (m g : ℕ) → list_any (is_packet (Multicast m g)) (message_packets plan n message) ≡ ((m == n) && sends plan message (Multicast m g))
   unfolding travelling
   multicast_found m g =
-      let sent = λ (k : ℕ). not (is_sent_by message k) in
+      let sent = takes_time plan message.sender in
       let gs = message.destinations in
       let q = Multicast m g in
       past_waits q refl
-      ∙ list_any-append (is_packet q) (multicast_packets n message) (flat_map (propose_packets n message) gs)
-      ∙ ap (λ b. list_any (is_packet q) (multicast_packets n message) || b)
+      ∙ list_any-append (is_packet q) (multicast_packets plan n message) (flat_map (propose_packets n message) gs)
+      ∙ ap (λ b. list_any (is_packet q) (multicast_packets plan n message) || b)
       (list_any_none (is_packet q) (flat_map (propose_packets n message) gs)
-      (λ k d l. not_stamp m g (get_or (flat_map (propose_packets n message) gs) k d) (are_stamps n message k d l)))
-      ∙ or_false (list_any (is_packet q) (multicast_packets n message))
+      (λ k d l. not_stamp m g (get_or (flat_map (propose_packets n message) gs) k d) (are_stamps plan n message k d l)))
+      ∙ or_false (list_any (is_packet q) (multicast_packets plan n message))
       ∙ any_mapped (is_packet q) (λ k. Multicast n k) sent gs
       ∙ any_one (λ k. sent k && ((m == n) && (g == k))) (sent g && (m == n)) g gs
       (λ k. and_assoc (sent k) (m == n) (g == k) ∙ to_one (λ i. sent i && (m == n)) g k)
@@ -155,15 +155,15 @@ module _ (n : ℕ) (message : Message) where
       ∙ any_one (λ i. not (k == i) && ((m == n) && (h == k) && (g == i))) (not (k == g) && ((m == n) && (h == k))) g message.destinations
       (λ i. and_assoc (not (k == i)) ((m == n) && (h == k)) (g == i) ∙ to_one (λ j. not (k == j) && ((m == n) && (h == k))) g i)
 
-  propose_found : (m h g : ℕ) → list_any (is_packet (Propose m h g)) (message_packets n message) ≡ ((m == n) && sends message (Propose m h g))
+  propose_found : (m h g : ℕ) → list_any (is_packet (Propose m h g)) (message_packets plan n message) ≡ ((m == n) && sends plan message (Propose m h g))
   unfolding travelling
   propose_found m h g =
       let gs = message.destinations in
       let q = Propose m h g in
       past_waits q refl
-      ∙ list_any-append (is_packet q) (multicast_packets n message) (flat_map (propose_packets n message) gs)
+      ∙ list_any-append (is_packet q) (multicast_packets plan n message) (flat_map (propose_packets n message) gs)
       ∙ ap (λ b. b || list_any (is_packet q) (flat_map (propose_packets n message) gs))
-      (list_any_none (is_packet q) (multicast_packets n message) (λ k d l. not_multicast m h g (get_or (multicast_packets n message) k d) (are_multicasts n message k d l)))
+      (list_any_none (is_packet q) (multicast_packets plan n message) (λ k d l. not_multicast m h g (get_or (multicast_packets plan n message) k d) (are_multicasts plan n message k d l)))
       ∙ list_any-flat_map (is_packet q) (propose_packets n message) gs
       ∙ any_one (λ k. list_any (is_packet q) (propose_packets n message k)) (((m == n) && is_addressed message g) && not (h == g)) h gs
       (λ k. stamps_found m h g k
@@ -171,7 +171,7 @@ module _ (n : ℕ) (message : Message) where
       ∙ to_one (λ j. ((m == n) && is_addressed message g) && not (j == g)) h k)
       ∙ regrouped (m == n) (is_addressed message g) (not (h == g)) (is_addressed message h)
 
-  found : (p : Packet) → list_any (is_packet p) (message_packets n message) ≡ ((message_of p == n) && sends message p)
+  found : (p : Packet) → list_any (is_packet p) (message_packets plan n message) ≡ ((message_of p == n) && sends plan message p)
   found (Wait m) = wait_found m
   found (Multicast m g) = multicast_found m g
   found (Propose m h g) = propose_found m h g
@@ -196,10 +196,10 @@ pub found_if_sent : (plan : Scenario) (p : Packet) → is_some (place_of p (pack
 unfolding packets_of
 found_if_sent plan p =
     is_some-position (is_packet p) (packets_of plan)
-    ∙ list_any-flat_map (is_packet p) (λ q. message_packets q.0 q.1) (enumerate_from 0 plan.multicasts)
-    ∙ any_numbered (λ q. list_any (is_packet p) (message_packets q.0 q.1)) (λ message. sends message p) (message_of p) 0 (message_of p) plan.multicasts no_message (λ q. found q.0 q.1 p) (unaddressed p) (sym (zero-add (message_of p)))
+    ∙ list_any-flat_map (is_packet p) (λ q. message_packets plan q.0 q.1) (enumerate_from 0 plan.multicasts)
+    ∙ any_numbered (λ q. list_any (is_packet p) (message_packets plan q.0 q.1)) (λ message. sends plan message p) (message_of p) 0 (message_of p) plan.multicasts no_message (λ q. found plan q.0 q.1 p) (unaddressed plan p) (sym (zero-add (message_of p)))
     ∙ named p where
-      named : (p : Packet) → sends (message_at plan (message_of p)) p ≡ is_sent plan p
+      named : (p : Packet) → sends plan (message_at plan (message_of p)) p ≡ is_sent plan p
       named (Wait m) = refl
       named (Multicast m g) = refl
       named (Propose m h g) = refl

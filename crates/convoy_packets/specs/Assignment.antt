@@ -53,7 +53,7 @@ pub record IsAssignment (scenario : Scenario) (schedule : Schedule) : Type 0 whe
   pub delays : AreWithin (ranges_of scenario) schedule.delays
   pub order : IsOrder scenario schedule.order
 
--- the delay of a packet among some, by its place in the list of packets; what is no packet, as what a group sends itself, takes no time
+-- the delay of a packet among some, by its place in the list of packets; what is no packet takes no time, as what a group sends itself where it has no link to itself
 abbrev pub delay_in : List Packet → List ℕ → Packet → ℕ
 delay_in packets delays packet = option_map_or (λ i. slice_index delays i) (place_of packet packets) 0
 

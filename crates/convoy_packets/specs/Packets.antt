@@ -1,7 +1,7 @@
 -- The packets of a scenario, in the order in which schedules list their delays.
 use Rattle.std.specs.Prelude.{ℕ, ◌==◌, Bool, true, false, ◌&&◌, not, if◌then◌else◌, List, [], ◌∷◌, ◌++◌, map, Option, position}
 use Rattle.std.specs.List.{filter, flat_map, enumerate_from}
-use Rattle.convoy_scenario.specs.Scenario.{Message, Scenario, is_sent_by, may_wait}
+use Rattle.convoy_scenario.specs.Scenario.{Message, Scenario, takes_time, may_wait}
 use Rattle.convoy_packets.specs.declared.packet.Packet.{Packet}
 use Rattle.convoy_packets.specs.declared.packet.Packet.TheVariants.{Wait, Multicast, Propose}
 
@@ -9,22 +9,22 @@ use Rattle.convoy_packets.specs.declared.packet.Packet.TheVariants.{Wait, Multic
 abbrev pub wait_packets : ℕ → Message → List Packet
 wait_packets m message = if may_wait message then Wait m ∷ [] else []
 
--- message m to each of its destinations but the group that sends it, in the order of their numbers
-abbrev pub multicast_packets : ℕ → Message → List Packet
-multicast_packets m message =
-    map (λ g. Multicast m g) (filter (λ g. not (is_sent_by message g)) message.destinations)
+-- message m to each of its destinations, in the order of their numbers; not to the group that sends it, unless that has a link to itself
+abbrev pub multicast_packets : Scenario → ℕ → Message → List Packet
+multicast_packets scenario m message = map (λ g. Multicast m g) (filter (takes_time scenario message.sender) message.destinations)
 
 -- the local stamp of the destination h of message m to each other destination
 abbrev pub propose_packets : ℕ → Message → ℕ → List Packet
 propose_packets m message h = map (λ g. Propose m h g) (filter (λ g. not (h == g)) message.destinations)
 
 -- the packets of message m: its wait, the message itself, and then the stamps by (from, to)
-abbrev pub message_packets : ℕ → Message → List Packet
-message_packets m message = wait_packets m message ++ (multicast_packets m message ++ flat_map (propose_packets m message) message.destinations)
+abbrev pub message_packets : Scenario → ℕ → Message → List Packet
+message_packets scenario m message =
+    wait_packets m message ++ (multicast_packets scenario m message ++ flat_map (propose_packets m message) message.destinations)
 
 -- all packets of a scenario, message by message
 unfoldable pub packets_of : Scenario → List Packet
-packets_of scenario = flat_map (λ p. message_packets p.0 p.1) (enumerate_from 0 scenario.multicasts)
+packets_of scenario = flat_map (λ p. message_packets scenario p.0 p.1) (enumerate_from 0 scenario.multicasts)
 
 -- a wait before an issue, and no packet that travels
 abbrev pub is_wait : Packet → Bool

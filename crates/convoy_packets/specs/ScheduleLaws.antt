@@ -3,7 +3,7 @@ use Rattle.std.specs.Prelude.{◌≡◌, ◌↔◌, ℕ, ℤ, pos, ◌*◌, ◌�
 use Rattle.std.specs.List.{slice_get}
 use Rattle.std.specs.Option.{is_some}
 use Rattle.convoy_draft.specs.declared.time.Time.TheVariants.{Real}
-use Rattle.convoy_scenario.specs.Scenario.{Scenario, message_at, may_wait, is_sent_by, is_addressed}
+use Rattle.convoy_scenario.specs.Scenario.{Scenario, message_at, may_wait, takes_time, is_addressed}
 use Rattle.convoy_scenario.specs.WellFormed.{IsScenario}
 use Rattle.convoy_packets.specs.declared.packet.TheConstants.{MOST_PACKETS}
 use Rattle.convoy_packets.specs.declared.table_places.TheConstants.{PLACES}
@@ -16,10 +16,10 @@ use Rattle.convoy_packets.specs.OrderLists.{AreSmall, is_no_order, order_of, ran
 use Rattle.convoy_packets.specs.Given.{schedule_of}
 use Rattle.convoy_packets.specs.Table.{least_of}
 
--- the scenario has the packet: the wait of a message that may wait, a message to a destination that does not send it, or the stamp of a destination to another one
+-- the scenario has the packet: the wait of a message that may wait, a message to a destination where that takes time, or the stamp of a destination to another one
 abbrev pub is_sent : Scenario → Packet → Bool
 is_sent scenario (Wait m) = may_wait (message_at scenario m)
-is_sent scenario (Multicast m g) = is_addressed (message_at scenario m) g && not (is_sent_by (message_at scenario m) g)
+is_sent scenario (Multicast m g) = is_addressed (message_at scenario m) g && takes_time scenario (message_at scenario m).sender g
 is_sent scenario (Propose m h g) = is_addressed (message_at scenario m) h && is_addressed (message_at scenario m) g && not (h == g)
 
 -- the list has the packets that the scenario sends, and no others

@@ -1,15 +1,15 @@
 ghost use Rattle.std.specs.Prelude.{◌≡◌, ◌<◌, ◌≤◌, ◌++◌, length, OnOk, IfOk};
 ghost use Rattle.std.specs.List.{flat_map};
-ghost use Rattle.convoy_scenario.specs.Scenario.{message_at, is_sent_by};
+ghost use Rattle.convoy_scenario.specs.Scenario.{message_at};
 ghost use Rattle.convoy_packets.specs.Packets.{wait_packets, multicast_packets, propose_packets, packets_of};
 ghost use Rattle.convoy_packets.specs.Slots.{HaveSlots};
 
 use super::packet::{MOST_PACKETS, Packet};
-use convoy_scenario::{AllocResult, Scenario, Sender};
+use convoy_scenario::{AllocResult, Scenario};
 use std::alloc::Global;
 
 /// Lists the packets of a scenario: message by message its wait, if it may wait, the message itself to
-/// each of its destinations, and then the local stamps by (from, to).
+/// each of its destinations to which it takes time, and then the local stamps by (from, to).
 pub(crate) fn list_packets(alloc: Global, scenario: &Scenario) -> AllocResult<Vec<Packet>>
     ensures value { IfOk result (λ packets. packets.items ≡ packets_of scenario.now) }
     ensures few { IfOk result (λ packets. length packets.items ≤ MOST_PACKETS) }
@@ -37,7 +37,7 @@ fn list_wait(packets: &mut Vec<Packet>, scenario: &Scenario, message: usize) -> 
     Ok(())
 }
 
-/// Adds a message on its way to each of its destinations but its sender.
+/// Adds a message on its way to each of its destinations: to the group that sends it where that has a link to itself.
 fn list_multicasts(
     packets: &mut Vec<Packet>,
     scenario: &Scenario,
@@ -46,22 +46,15 @@ fn list_multicasts(
     requires { message < length scenario.now.multicasts }
     ensures { OnOk result
         (packets.new.items ≡ packets.old.items
-        ++ multicast_packets message (message_at scenario.now message)) }
+        ++ multicast_packets scenario.now message (message_at scenario.now message)) }
 {
+    let sender = scenario.sender(message);
     for &to in scenario.destinations(message) {
-        if !is_sender(scenario, message, to) {
+        if scenario.takes_time(sender, to) {
             packets.push(Packet::Multicast { message, to })?;
         }
     }
     Ok(())
-}
-
-/// Whether the group sends the message itself.
-fn is_sender(scenario: &Scenario, message: usize, group: usize) -> bool
-    requires { message < length scenario.now.multicasts }
-    ensures { result ≡ is_sent_by (message_at scenario.now message) group }
-{
-    scenario.sender(message) == Sender::Group(group)
 }
 
 /// Adds the local stamps for a message, from each of its destinations to each other one.

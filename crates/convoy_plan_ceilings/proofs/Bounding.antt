@@ -1,16 +1,18 @@
 -- All placements that have some sites are passed where the ceiling of some target is too great in each of them.
-use Rattle.std.proofs.Common.{◌≡◌, ℕ, ◌-◌, ◌<◌, ◌≤◌, Bool, true, false, cond, List, length, Option, Some, None, Ok, refl, sym, ap, subst, ◌∙◌, arith}
-use Rattle.std.proofs.lemmas.Bool.{both_ways, eq-eqb}
+use Rattle.std.proofs.Common.{◌≡◌, ℕ, ◌-◌, ◌<◌, ◌≤◌, Bool, true, false, not, ◌||◌, cond, List, length, Option, Some, None, is_some, Ok, refl, sym, ap, subst, ◌∙◌, arith}
+use Rattle.std.proofs.lemmas.Bool.{both_ways, cond-false, cond-true, eq-eqb}
+use Rattle.std.proofs.lemmas.Option.{same_Some}
 use Rattle.convoy_scenario.specs.declared.sender.Sender.{Sender}
 use Rattle.convoy_scenario.specs.declared.sender.Sender.TheVariants as senders
-use Rattle.convoy_scenario.specs.Scenario.{Message, Scenario, is_addressed, is_same_sender, message_at, range_between}
+use Rattle.convoy_scenario.specs.Scenario.{Message, Scenario, is_addressed, is_same_sender, link_between, message_at, range_between, takes_time}
+use Rattle.convoy_scenario.proofs.KeptRanges.{one_sender}
 use Rattle.convoy_sim.specs.Delivery.{addressed_to}
 use Rattle.convoy_sim.proofs.Addressed.{in_of_goes}
 use Rattle.convoy_sim.proofs.Membership.{IsIn, all-in, in-map, in_of_contains, in_of_filter, in_of_map, in_of_range}
 use Rattle.convoy_ceiling.specs.Ceiling.{ceiling_at, delays_between, longest_after, longest_from_arrival, longest_to_commit}
 use Rattle.convoy_plans.specs.declared.plan.Origin.{Origin}
 use Rattle.convoy_plans.specs.declared.plan.Origin.TheVariants.{Group}
-use Rattle.convoy_plans.specs.PlanLaws.{MessagesAreOfPlans, RangesAreOfSites, sender_for}
+use Rattle.convoy_plans.specs.PlanLaws.{GroupsHaveNoLinksToThemselves, MessagesAreOfPlans, RangesAreOfSites, sender_for}
 use Rattle.convoy_plans.specs.Placements.{Completes, scenario_at}
 use Rattle.convoy_plans.specs.Plans.{IsOrigin, IsPlan, Plan, origin_of}
 use Rattle.convoy_best_order.specs.declared.excess.Excess.{Excess}
@@ -37,7 +39,7 @@ after_low : (ticks longest least : ℕ) (known : Option ℕ) → ticks ≤ longe
 after_low ticks longest least None low is = omega arith
 after_low ticks longest least (Some l) low is = let same = is l refl in omega (arith, low, same)
 
-module _ (sites_law : RangesAreOfSites) (messages_law : MessagesAreOfPlans) (plan : Plan) (is_plan : IsPlan plan) (placement : List ℕ) (sites : List (Option ℕ))
+module _ (sites_law : RangesAreOfSites) (home_law : GroupsHaveNoLinksToThemselves) (messages_law : MessagesAreOfPlans) (plan : Plan) (is_plan : IsPlan plan) (placement : List ℕ) (sites : List (Option ℕ))
     (all : Completes placement sites) (scenario : Scenario) (made : scenario_at plan placement ≡ Ok scenario) (leasts : List (Option ℕ)) (are : AreLeasts plan leasts)
     (many : length scenario.multicasts ≡ length plan.written.messages) where
   -- the least delay that is known is that of the scenario
@@ -57,9 +59,15 @@ module _ (sites_law : RangesAreOfSites) (messages_law : MessagesAreOfPlans) (pla
         (origin_at sites_law messages_law plan is_plan placement sites all scenario made from a e) (all g b k))
 
     by_test : (b : Bool) → is_same_sender sender (senders.Group g) ≡ b
-        → cond b (Some 0) (least_between leasts (origin_site sites from) (site_known sites g)) ≡ Some l → (cond b (0, 0) (range_between scenario sender g)).0 ≡ l
-    by_test true here is = cc
-    by_test false away is = by_sites (λ e. both_ways _ away (itself e)) (origin_site sites from) refl (site_known sites g) refl is
+        → cond b (Some 0) (least_between leasts (origin_site sites from) (site_known sites g)) ≡ Some l → (delays_between scenario sender g).0 ≡ l
+    by_test true here is =
+        let none : takes_time scenario sender g ≡ false =
+        subst (λ (s : Sender). takes_time scenario s g ≡ false) (sym (one_sender sender (senders.Group g) here)) (home_law plan placement scenario g made) in
+        ap (λ (range : ℕ × ℕ). range.0) (cond-false _ _ _ none) ∙ same_Some 0 l is
+    by_test false away is =
+        let takes : takes_time scenario sender g ≡ true = ap (λ (home : Bool). not home || is_some (link_between scenario.links sender g)) away in
+        ap (λ (range : ℕ × ℕ). range.0) (cond-true _ _ _ takes)
+        ∙ by_sites (λ e. both_ways _ away (itself e)) (origin_site sites from) refl (site_known sites g) refl is
 
   from_arrival_low : (g n : ℕ) → g < length plan.written.groups → n < length plan.written.messages
       → from_arrival_known plan scenario leasts sites g n ≤ longest_from_arrival scenario g n
@@ -109,11 +117,11 @@ target_there wanted plan chosen scenario row same is i =
     subst (λ (ts : List Target). IsIn row.target ts) (sym (ap counted (same_targets wanted plan.deadlines chosen.scenario scenario same)))
     (subst (λ (t : Target). IsIn t (targets_by wanted plan chosen.scenario)) its found.1)
 
-pub high_passed : (sites_law : RangesAreOfSites) (messages_law : MessagesAreOfPlans) (wanted : Wanted) (plan : Plan) (chosen : CeilingChoice) (leasts sites : List (Option ℕ))
+pub high_passed : (sites_law : RangesAreOfSites) (home_law : GroupsHaveNoLinksToThemselves) (messages_law : MessagesAreOfPlans) (wanted : Wanted) (plan : Plan) (chosen : CeilingChoice) (leasts sites : List (Option ℕ))
     → IsPlan plan → IsCeilingChoice wanted plan chosen → AreLeasts plan leasts
     → IsHighAnyhow plan chosen.scenario leasts sites chosen.rows.items chosen.reach
     → (placement : List ℕ) → Completes placement sites → IsNoBetter wanted plan chosen.reach placement
-high_passed sites_law messages_law wanted plan chosen leasts sites is_plan is are high placement all scenario made =
+high_passed sites_law home_law messages_law wanted plan chosen leasts sites is_plan is are high placement all scenario made =
     let first : Scenario = chosen.scenario in
     let row : TargetCeiling = high.row in
     let target : Target = row.target in
@@ -124,7 +132,7 @@ high_passed sites_law messages_law wanted plan chosen leasts sites is_plan is ar
     let known : target.message < length plan.written.messages = let below = may.known in omega (arith, below, many) in
     let at_group : target.group < length plan.written.groups =
     goes_known sites_law messages_law plan is_plan placement sites all scenario made target.message known target.group (in_of_goes scenario target.message target.group may.addressed) in
-    let ceiling = ceiling_low sites_law messages_law plan is_plan placement sites all scenario made leasts are many target.message target.group known at_group in
+    let ceiling = ceiling_low sites_law home_law messages_law plan is_plan placement sites all scenario made leasts are many target.message target.group known at_group in
     let total = total_low sites_law messages_law plan is_plan placement sites all scenario made many in
     let fewer : high.total ≤ total_of scenario = up_to high.total (total_known plan first sites) (total_known plan scenario sites) (total_of scenario) high.total_low (same_total plan sites first scenario same) total in
     let later : high.high.ceiling ≤ ceiling_at scenario target.message target.group =

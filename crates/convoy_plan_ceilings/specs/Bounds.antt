@@ -21,7 +21,7 @@ least_between leasts None to = None
 least_between leasts (Some a) None = None
 least_between leasts (Some a) (Some b) = least_at leasts a b
 
--- the same from a sender, who is there, to a group; what a group sends to itself takes no time
+-- the same from a sender, who is there, to a group; what a group sends to itself takes no time, as it has no link to itself
 abbrev pub least_known : List (Option ℕ) → List (Option ℕ) → Sender → Origin → ℕ → Option ℕ
 least_known leasts sites sender from g =
     if is_same_sender sender (senders.Group g) then Some 0 else least_between leasts (origin_site sites from) (site_known sites g)

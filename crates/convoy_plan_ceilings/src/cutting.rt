@@ -10,7 +10,9 @@ use super::bounds::is_high_anyhow;
 use super::ceiling_choice::CeilingChoice;
 use super::standing::Standing;
 use convoy_plans::Plan;
-use convoy_plans::plan_laws::{messages_are_of_plans, ranges_are_of_sites};
+use convoy_plans::plan_laws::{
+    groups_have_no_links_to_themselves, messages_are_of_plans, ranges_are_of_sites,
+};
 
 /// Whether no placement that has these sites is better than the best choice so far, as some ceiling is too great in each of
 /// them.
@@ -35,6 +37,7 @@ fn is_high_below(
         → ArePassed wanted plan.now (Some chosen.now) sites.now }
 {
     ranges_are_of_sites();
+    groups_have_no_links_to_themselves();
     messages_are_of_plans();
     // A plan is well formed.
     let _count = plan.group_count();

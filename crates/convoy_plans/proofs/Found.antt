@@ -20,7 +20,7 @@ one_sender Client (Group h) e = absurd (false≢true e)
 one_sender (Group g) Client e = absurd (false≢true e)
 one_sender (Group g) (Group h) e = ap (λ n. Group n) (eqb-true g h e)
 
-one_name : (groups : List (List ℕ)) (a b : List ℕ) → is_among a groups ≡ true → is_among b groups ≡ true → place a groups ≡ place b groups → bytes_eq a b ≡ true
+pub one_name : (groups : List (List ℕ)) (a b : List ℕ) → is_among a groups ≡ true → is_among b groups ≡ true → place a groups ≡ place b groups → bytes_eq a b ≡ true
 one_name groups a b known other e =
     let same : a ≡ b = sym (name_at_place a groups known) ∙ ap (λ g. get_or groups g []) e ∙ name_at_place b groups other in
     rw same (itself b)

@@ -6,6 +6,7 @@ pub mod Found
 pub mod Drafted
 pub mod Keeping
 pub mod OfSites
+pub mod Homes
 pub mod ArePlans
 pub mod Counting
 pub mod Judged

@@ -1,5 +1,5 @@
 -- What stands in a list, and what is made of it.
-use Rattle.std.proofs.Common.{◌≡◌, ◌<◌, ◌⊎◌, ℕ, ◌+◌, zero, suc, Bool, true, false, List, [], ◌∷◌, ◌++◌, map, filter, flat_map, length, get_or, cond, All, refl, ap, subst, inl, inr, arith}
+use Rattle.std.proofs.Common.{◌≡◌, ◌<◌, ◌⊎◌, ℕ, ◌+◌, zero, suc, Bool, true, false, List, [], ◌∷◌, ◌++◌, map, filter, flat_map, length, get_or, cond, All, refl, ap, subst, ◌∙◌, inl, inr, arith}
 use Rattle.std.specs.List.{list_all, list_any, range_with_len}
 use Rattle.std.proofs.lemmas.Bool.{and_parts, or_right}
 
@@ -53,6 +53,23 @@ in_map_back f y (x ∷ xs) (inr h) =
     let r = in_map_back f y xs h in
     (r.0, inr r.1, r.2)
 
+pub in_either : {X : Type 0} (x : X) (xs ys : List X) → In x (xs ++ ys) → In x xs ⊎ In x ys
+in_either x [] ys h = inr h
+in_either x (y ∷ xs) ys (inl is) = inl (inl is)
+in_either x (y ∷ xs) ys (inr h) = by_rest (in_either x xs ys h) where
+  by_rest : In x xs ⊎ In x ys → In x (y ∷ xs) ⊎ In x ys
+  by_rest (inl here) = inl (inr here)
+  by_rest (inr there) = inr there
+
+pub in_flat_map_back : {X Y : Type 0} (f : X → List Y) (y : Y) (xs : List X) → In y (flat_map f xs) → (x : X) × In x xs × In y (f x)
+in_flat_map_back f y [] h = absurd h
+in_flat_map_back {X} f y (x ∷ xs) h = by_part (in_either y (f x) (flat_map f xs) h) (in_flat_map_back f y xs) where
+  by_part : In y (f x) ⊎ In y (flat_map f xs) → (In y (flat_map f xs) → (z : X) × In z xs × In y (f z)) → (z : X) × In z (x ∷ xs) × In y (f z)
+  by_part (inl here) more = (x, inl refl, here)
+  by_part (inr there) more =
+      let r = more there in
+      (r.0, inr r.1, r.2)
+
 pub all_of_in : {X : Type 0} (P : X → Type 0) (xs : List X) → ((x : X) → In x xs → P x) → All P xs
 all_of_in P xs h k d within = h (get_or xs k d) (in_at xs k d within)
 
@@ -67,6 +84,14 @@ pub all_in : {X : Type 0} (p : X → Bool) (x : X) (xs : List X) → In x xs →
 all_in p x [] h e = absurd h
 all_in p x (y ∷ xs) (inl is) e = rw is ((and_parts (p y) (list_all p xs) e).0)
 all_in p x (y ∷ xs) (inr h) e = all_in p x xs h ((and_parts (p y) (list_all p xs) e).1)
+
+pub of_filter : {X : Type 0} (p : X → Bool) (x : X) (xs : List X) → In x (filter p xs) → p x ≡ true
+of_filter p x [] h = absurd h
+of_filter p x (y ∷ xs) h = by_test (p y) refl h (of_filter p x xs) where
+  by_test : (b : Bool) → p y ≡ b → In x (cond b (y ∷ filter p xs) (filter p xs)) → (In x (filter p xs) → p x ≡ true) → p x ≡ true
+  by_test true passes (inl is) more = ap p is ∙ passes
+  by_test true passes (inr there) more = more there
+  by_test false fails there more = more there
 
 pub in_filter : {X : Type 0} (p : X → Bool) (x : X) (xs : List X) → In x xs → p x ≡ true → In x (filter p xs)
 in_filter p x [] h e = absurd h

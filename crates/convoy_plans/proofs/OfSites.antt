@@ -82,7 +82,7 @@ first_is tick (link ∷ links) bundles test e =
 
 -- ---- the link of a table from one place to one group
 
-abbrev lone_ends : Option (List ℕ) → List ℕ → LinkEnds
+abbrev pub lone_ends : Option (List ℕ) → List ℕ → LinkEnds
 lone_ends name to = record { senders = option_map (λ n. n ∷ []) name; to = to ∷ []; both = false }
 
 lone_link : (name : Option (List ℕ)) (to : List ℕ) (least most : ℤ) → is_named_alike name (Some to) ≡ false

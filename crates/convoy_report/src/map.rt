@@ -44,10 +44,6 @@ pub(crate) fn map_of(
 
 /// Writes the line of a way, with what it is in its title.
 fn write_way(scenario: &Scenario, way: Way, text: &mut String) -> Result<(), AllocError> {
-    let (x, y) = spot(scenario, place_of(way.sender));
-    let (to_x, to_y) = spot(scenario, place_of(Sender::Group(way.to)));
-    let across = (x / 2 + to_x / 2 + to_y / 9).saturating_sub(y / 9);
-    let down = (y / 2 + to_y / 2 + x / 9).saturating_sub(to_x / 9);
     let (from, to) = (
         sender_word(scenario, way.sender),
         group_name(scenario, way.to),
@@ -55,8 +51,22 @@ fn write_way(scenario: &Scenario, way: Way, text: &mut String) -> Result<(), All
     let (least, most) = scenario.range_between(way.sender, way.to);
     write!(
         text,
-        "<g><title>{from} to {to}: {least} to {most} ticks</title><path d=\"M{x} {y}Q{across} {down} {to_x} {to_y}\" marker-end=\"url(#tip)\"/></g>\n"
-    )
+        "<g><title>{from} to {to}: {least} to {most} ticks</title><path d=\""
+    )?;
+    write_curve(scenario, way, text)?;
+    text.push_str("\" marker-end=\"url(#tip)\"/></g>\n")
+}
+
+/// Writes the curve of a way: one from a group to itself is a loop.
+fn write_curve(scenario: &Scenario, way: Way, text: &mut String) -> Result<(), AllocError> {
+    let (x, y) = spot(scenario, place_of(way.sender));
+    if way.sender == Sender::Group(way.to) {
+        return write!(text, "M{x} {y}c-260 -200 260 -200 0 0");
+    }
+    let (to_x, to_y) = spot(scenario, place_of(Sender::Group(way.to)));
+    let across = (x / 2 + to_x / 2 + to_y / 9).saturating_sub(y / 9);
+    let down = (y / 2 + to_y / 2 + x / 9).saturating_sub(to_x / 9);
+    write!(text, "M{x} {y}Q{across} {down} {to_x} {to_y}")
 }
 
 /// Writes a place, with its name outside the circle.

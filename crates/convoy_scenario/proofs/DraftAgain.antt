@@ -16,7 +16,7 @@ use Rattle.convoy_scenario.specs.Scenario.{Scenario, Link, Message, message_at, 
 use Rattle.convoy_scenario.specs.WellFormed.{sender_place, is_before, is_whole, follows, ascend_after, IsSender, IsLink, IsMulticast, IsScenario}
 use Rattle.convoy_draft.specs.Names.{is_name, is_group_name}
 use Rattle.convoy_draft.specs.Limits.{greatest_delay}
-use Rattle.convoy_draft.specs.Checks.{Check, checks, judge, is_within, ticks, is_count, is_among, all_differ, is_known_sender, knows, is_message, messages_differ, is_named_alike, is_same_pair, links_differ, has_range, has_wait, knows_link, leads_elsewhere, is_target_addressed}
+use Rattle.convoy_draft.specs.Checks.{Check, checks, judge, is_within, ticks, is_count, is_among, all_differ, is_known_sender, knows, is_message, messages_differ, is_named_alike, is_same_pair, links_differ, has_range, has_wait, knows_link, is_target_addressed}
 use Rattle.convoy_scenario.specs.Naming.{sender_name, draft_link, draft_message, draft_for}
 use Rattle.convoy_scenario.specs.Numbering.{message_place, sender_of, link_of, message_of, scenario_of, scenario_of_draft, with_room}
 use Rattle.convoy_scenario.proofs.NumberedAgain.{itself, same_bytes, any_at, apart, one_place, among_at, place_again, numbers_again, Rises, rises, above, among_named}
@@ -128,15 +128,6 @@ other_pairs plan l (k ∷ ks) distinct a are before =
 none_within : (least most delay : ℕ) → 1 ≤ least → least ≤ most → most ≤ delay → (leb 1 least && leb least most && leb most delay) ≡ true
 none_within least most delay low ordered high = rw (le-leb 1 least low, le-leb least most ordered, le-leb most delay high) refl
 
-elsewhere : (plan : Scenario) (l : Link) → IsDistinct bytes_eq plan.groups → IsLink (length plan.groups) plan.delay l → leads_elsewhere (draft_link plan l) ≡ true
-elsewhere plan l distinct is = apart_from l.sender is.sender is.apart where
-  apart_from : (s : Sender) → IsSender (length plan.groups) s → not (is_same_sender s (Group l.to)) ≡ true → not (is_named_alike (sender_name plan s) (Some (group_name_at plan l.to))) ≡ true
-  apart_from Client known other = refl
-  apart_from (Group g) known other =
-      ap not (false_from_ne_true _ (λ e.
-      let same : g ≡ l.to = one_place plan.groups g l.to distinct known is.to (same_bytes _ _ e) in
-      both_ways _ (not-true (g == l.to) other) (eq-eqb g l.to same)))
-
 -- ---- the checks
 
 within_again : (least most n : ℕ) → least ≤ n → n ≤ most → is_within least most (pos n) ≡ true
@@ -223,7 +214,7 @@ passes_again plan s =
     let each = all_drafts plan in
     let links = all_links plan in
     judged (checks (draft_for plan))
-    (delay_again plan s, (count_again MOST_GROUPS plan.groups s.groups_low s.groups_high, (rw (length-map plan.multicasts (draft_message plan)) (count_again MOST_MULTICASTS plan.multicasts s.multicasts_low s.multicasts_high), (each (λ m. is_within 0 GREATEST_AT m.at) plan.multicasts s.messages (λ m is. within_again 0 GREATEST_AT m.at (omega arith) is.at), (each has_wait plan.multicasts s.messages (λ m is. waits_again m.at m.longest_wait is.at is.wait), (links (has_range (pos plan.delay)) plan.links s.links (λ l is. none_within l.least l.most plan.delay is.low is.ordered is.high), (s.tick, (all_true is_group_name plan.groups s.group_names, (each (λ m. is_name m.name) plan.multicasts s.messages (λ m is. is.name), (differ plan.groups s.group_names_differ, (messages_are plan plan.multicasts s.message_names_differ, (links_are plan plan.links s.group_names_differ s.links None s.ascending, (each (knows plan.groups) plan.multicasts s.messages (λ m is. and_from _ _ (sender_known plan m.sender is.sender) (names_known plan.groups m.destinations is.known)), (among_at plan.groups plan.target_group (group_known plan s), (links (knows_link plan.groups) plan.links s.links (λ l is. and_from _ _ (sender_known plan l.sender is.sender) (among_at plan.groups l.to is.to)), (each (λ m. leb 1 (length m.to)) plan.multicasts s.messages (λ m is. rw (length-map m.destinations (group_name_at plan)) (le-leb 1 (length m.destinations) is.destinations)), (each (λ m. all_differ m.to) plan.multicasts s.messages (λ m is. names_differ plan.groups m.destinations 0 s.group_names_differ is.known (rises 0 m.destinations is.ascending (λ some. omega arith))), (is_there plan s, (addressed_again plan s, (links leads_elsewhere plan.links s.links (λ l is. elsewhere plan l s.group_names_differ is), tt))))))))))))))))))))
+    (delay_again plan s, (count_again MOST_GROUPS plan.groups s.groups_low s.groups_high, (rw (length-map plan.multicasts (draft_message plan)) (count_again MOST_MULTICASTS plan.multicasts s.multicasts_low s.multicasts_high), (each (λ m. is_within 0 GREATEST_AT m.at) plan.multicasts s.messages (λ m is. within_again 0 GREATEST_AT m.at (omega arith) is.at), (each has_wait plan.multicasts s.messages (λ m is. waits_again m.at m.longest_wait is.at is.wait), (links (has_range (pos plan.delay)) plan.links s.links (λ l is. none_within l.least l.most plan.delay is.low is.ordered is.high), (s.tick, (all_true is_group_name plan.groups s.group_names, (each (λ m. is_name m.name) plan.multicasts s.messages (λ m is. is.name), (differ plan.groups s.group_names_differ, (messages_are plan plan.multicasts s.message_names_differ, (links_are plan plan.links s.group_names_differ s.links None s.ascending, (each (knows plan.groups) plan.multicasts s.messages (λ m is. and_from _ _ (sender_known plan m.sender is.sender) (names_known plan.groups m.destinations is.known)), (among_at plan.groups plan.target_group (group_known plan s), (links (knows_link plan.groups) plan.links s.links (λ l is. and_from _ _ (sender_known plan l.sender is.sender) (among_at plan.groups l.to is.to)), (each (λ m. leb 1 (length m.to)) plan.multicasts s.messages (λ m is. rw (length-map m.destinations (group_name_at plan)) (le-leb 1 (length m.destinations) is.destinations)), (each (λ m. all_differ m.to) plan.multicasts s.messages (λ m is. names_differ plan.groups m.destinations 0 s.group_names_differ is.known (rises 0 m.destinations is.ascending (λ some. omega arith))), (is_there plan s, (addressed_again plan s, tt)))))))))))))))))))
 
 pub made_again : (plan : Scenario) → IsScenario plan → scenario_of_draft (draft_for plan) ≡ Ok plan
 made_again plan s = rw (passes_again plan s) (ap with_room (draft_again plan s) ∙ with_room_is plan (room_from plan s.room))

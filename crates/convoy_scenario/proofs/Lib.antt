@@ -13,3 +13,4 @@ pub mod DraftAgain
 pub mod RoomLemmas
 pub mod RowScenarios
 pub mod WidenedLemmas
+pub mod TakingTime

@@ -19,7 +19,7 @@ use Rattle.convoy_scenario.specs.declared.sender.Sender.TheVariants.{Group}
 use Rattle.convoy_draft.specs.declared.time.Time.{Time}
 use Rattle.convoy_draft.specs.declared.time.Time.TheVariants.{Ticks, Real}
 use Rattle.convoy_draft.specs.Draft.{Draft, DraftLink, DraftMessage}
-use Rattle.convoy_draft.specs.Checks.{is_within, ticks, has_wait, is_count, is_among, all_differ, is_message, messages_differ, links_differ, is_known_sender, knows, is_named_alike, has_range, knows_link, leads_elsewhere, is_target_addressed, checks, judge, Check}
+use Rattle.convoy_draft.specs.Checks.{is_within, ticks, has_wait, is_count, is_among, all_differ, is_message, messages_differ, links_differ, is_known_sender, knows, is_named_alike, has_range, knows_link, is_target_addressed, checks, judge, Check}
 use Rattle.convoy_scenario.specs.Numbering.{place, message_place, sender_of, numbers_of, link_of, message_of, in_order, delay_of_draft, links_of_draft, scenario_of}
 use Rattle.convoy_scenario.proofs.LinkLemmas.{ticks_again, in_order_all, in_order_ascends}
 use Rattle.convoy_scenario.proofs.NumberLemmas.{numbers_have, numbers_some, numbers_rise, numbers_below}
@@ -45,7 +45,6 @@ pub record Passes (draft : Draft) : Type 0 where
   pub somewhere : list_all (λ m. nat_le 1 (length m.to)) draft.messages ≡ true
   pub target : is_message draft.target_message draft.messages ≡ true
   pub addressed : is_target_addressed draft ≡ true
-  pub elsewhere : list_all leads_elsewhere draft.links ≡ true
 
 next_holds : (b : Bool) (fault : ScenarioFault) (rest : Result (Unit {0}) ScenarioFault) → cond b rest (Err fault) ≡ Ok tt → (b ≡ true) × (rest ≡ Ok tt)
 next_holds true fault rest h = (refl, h)
@@ -81,7 +80,6 @@ passes draft h =
       somewhere = c.1.1.1.0;
       target = c.1.1.1.1.1.0;
       addressed = c.1.1.1.1.1.1.0;
-      elsewhere = c.1.1.1.1.1.1.1.0;
     }
 
 ticks-within : (least most : ℕ) (z : ℤ) → is_within least most z ≡ true → (least ≤ ticks most z) × (ticks most z ≤ most)
@@ -170,40 +168,27 @@ ranged (negsuc a) most delay within h = absurd (false≢true (and_parts (int_le 
 ranged (pos a) (negsuc b) delay within h = absurd (false≢true (and_parts (leb 1 a) (int_le (pos a) (negsuc b)) (and_parts _ (int_le (negsuc b) delay) h).0).1)
 ranged (pos a) (pos b) (negsuc d) within h = absurd (false≢true within)
 
--- a link that is written between two places leads between two
-parted : (groups : List (List ℕ)) (sender : Option (List ℕ)) (to : List ℕ) → is_known_sender groups sender ≡ true → is_among to groups ≡ true → not (is_named_alike sender (Some to)) ≡ true
-    → not (is_same_sender (sender_of groups sender) (Group (place to groups))) ≡ true
-parted groups None to known among other = refl
-parted groups (Some name) to known among other =
-    ap not (false_from_ne_true _ (λ e.
-    let one : place name groups ≡ place to groups = eqb-true _ _ e in
-    let same : name ≡ to = sym (name_at_place name groups known) ∙ ap (λ g. get_or groups g []) one ∙ name_at_place to groups among in
-    let twice : not (bytes_eq name to) ≡ false = ap not ((bytes_eq-Decides name to).1 same) in
-    false≢true (sym twice ∙ other)))
-
-link_formed : (draft : Draft) (link : DraftLink) → is_within 1 GREATEST_DELAY draft.delay ≡ true → has_range draft.delay link ≡ true → knows_link draft.groups link ≡ true → leads_elsewhere link ≡ true
+link_formed : (draft : Draft) (link : DraftLink) → is_within 1 GREATEST_DELAY draft.delay ≡ true → has_range draft.delay link ≡ true → knows_link draft.groups link ≡ true
     → is_whole (delay_of_draft draft) (link_of draft.groups link) ≡ false → IsLink (length draft.groups) (delay_of_draft draft) (link_of draft.groups link)
-link_formed draft link within range known other part =
+link_formed draft link within range known part =
     let ends = and_parts (is_known_sender draft.groups link.sender) (is_among link.to draft.groups) known in
     let ticks = ranged link.least link.most draft.delay within range in
     record {
       sender = sender_known draft.groups link.sender ends.0;
       to = place_within (bytes_eq link.to) draft.groups ends.1;
-      apart = parted draft.groups link.sender link.to ends.0 ends.1 other;
       low = ticks.0;
       ordered = ticks.1;
       high = ticks.2;
       partial = ap not part;
     }
 
-links_formed : (draft : Draft) (links : List DraftLink) → is_within 1 GREATEST_DELAY draft.delay ≡ true → list_all (has_range draft.delay) links ≡ true → list_all (knows_link draft.groups) links ≡ true → list_all leads_elsewhere links ≡ true
+links_formed : (draft : Draft) (links : List DraftLink) → is_within 1 GREATEST_DELAY draft.delay ≡ true → list_all (has_range draft.delay) links ≡ true → list_all (knows_link draft.groups) links ≡ true
     → AllByRecursion (λ l. is_whole (delay_of_draft draft) l ≡ false → IsLink (length draft.groups) (delay_of_draft draft) l) (map (link_of draft.groups) links)
-links_formed draft [] within ranges known other = tt
-links_formed draft (link ∷ links) within ranges known other =
+links_formed draft [] within ranges known = tt
+links_formed draft (link ∷ links) within ranges known =
     let a = and_parts (has_range draft.delay link) (list_all (has_range draft.delay) links) ranges in
     let b = and_parts (knows_link draft.groups link) (list_all (knows_link draft.groups) links) known in
-    let c = and_parts (leads_elsewhere link) (list_all leads_elsewhere links) other in
-    (link_formed draft link within a.0 b.0 c.0, links_formed draft links within a.1 b.1 c.1)
+    (link_formed draft link within a.0 b.0, links_formed draft links within a.1 b.1)
 
 -- the first message of the target's name
 target_is : (draft : Draft) (m : DraftMessage) → find (λ message. bytes_eq draft.target_message message.name) draft.messages ≡ Some m → is_target_addressed draft ≡ true → is_among draft.target_group m.to ≡ true
@@ -265,7 +250,7 @@ scenario_formed draft h room =
       multicasts_high = rw numbered (leb-true _ _ messages.1);
       group_names = named;
       group_names_differ = groups_distinct draft.groups p.groups_differ;
-      links = All-from_recursion (IsLink (length draft.groups) (delay_of_draft draft)) (in_order (delay_of_draft draft) (links_of_draft draft)) (in_order_all (IsLink (length draft.groups) (delay_of_draft draft)) (delay_of_draft draft) (links_of_draft draft) (links_formed draft draft.links within p.ranges p.ends p.elsewhere));
+      links = All-from_recursion (IsLink (length draft.groups) (delay_of_draft draft)) (in_order (delay_of_draft draft) (links_of_draft draft)) (in_order_all (IsLink (length draft.groups) (delay_of_draft draft)) (delay_of_draft draft) (links_of_draft draft) (links_formed draft draft.links within p.ranges p.ends));
       ascending = in_order_ascends (delay_of_draft draft) (links_of_draft draft);
       message_names_differ = messages_distinct draft.groups draft.messages p.messages_differ;
       messages = All-map (IsMulticast (length draft.groups)) (message_of draft.groups) draft.messages (λ k d within. multicast_formed draft.groups (get_or draft.messages k d) (names k d within) (known k d within) (some k d within) (at k d within) (waits k d within));

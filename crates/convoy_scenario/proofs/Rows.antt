@@ -1,12 +1,12 @@
 -- Worked rows: what the definitions give for some drafts.
-use Rattle.std.proofs.Common.{◌≡◌, refl, ℕ, pos, negsuc, List, [], ◌∷◌, Option, Some, None, Ok, Err, codes}
-use Rattle.convoy_draft.specs.declared.fault.ScenarioFault.TheVariants.{OverLimit, BadName, DoubleName, UnknownGroup, NoDestination, DoubleDestination, UnknownTarget, TargetNotAddressed, LinkToItself}
+use Rattle.std.proofs.Common.{◌≡◌, refl, true, false, ℕ, pos, negsuc, List, [], ◌∷◌, Option, Some, None, Ok, Err, codes}
+use Rattle.convoy_draft.specs.declared.fault.ScenarioFault.TheVariants.{OverLimit, BadName, DoubleName, UnknownGroup, NoDestination, DoubleDestination, UnknownTarget, TargetNotAddressed}
 use Rattle.convoy_draft.specs.declared.fault.Limit.TheVariants as limit
 use Rattle.convoy_scenario.specs.declared.sender.Sender.TheVariants.{Client, Group}
 use Rattle.convoy_draft.specs.declared.time.Time.TheVariants.{Ticks, Real}
-use Rattle.convoy_scenario.specs.Scenario.{Scenario, range_between}
+use Rattle.convoy_scenario.specs.Scenario.{Scenario, range_between, takes_time}
 use Rattle.convoy_draft.specs.Draft.{Draft, DraftLink}
-use Rattle.convoy_scenario.specs.Numbering.{scenario_of_draft}
+use Rattle.convoy_scenario.specs.Numbering.{in_order, scenario_of_draft}
 use Rattle.convoy_scenario.proofs.RowScenarios.{of_two}
 
 -- three ticks at most; x to b, t to b and a, y from a to both; t at a
@@ -157,8 +157,12 @@ link_of_client_by_name = refl
 link_to_nowhere : scenario_of_draft (linked (link None (codes "c") 1 2 ∷ [])) ≡ Err UnknownGroup
 link_to_nowhere = refl
 
-link_to_itself : scenario_of_draft (linked (link (Some (codes "a")) (codes "a") 1 2 ∷ [])) ≡ Err LinkToItself
-link_to_itself = refl
+-- what a group sends itself takes time by a link to itself alone, which stays also where it has the range of what has no link
+link_to_itself : (takes_time (record base_scenario { links = record { sender = Group 0; to = 0; least = 1; most = 3 } ∷ [] }) (Group 0) 0 ≡ true)
+    × (takes_time base_scenario (Group 0) 0 ≡ false)
+    × (in_order 3 (record { sender = Group 0; to = 0; least = 1; most = 3 } ∷ record { sender = Group 0; to = 1; least = 1; most = 3 } ∷ [])
+    ≡ record { sender = Group 0; to = 0; least = 1; most = 3 } ∷ [])
+link_to_itself = (refl, refl, refl)
 
 ranges_between : (range_between (record base_scenario { links = record { sender = Client; to = 1; least = 2; most = 3 } ∷ record { sender = Group 1; to = 0; least = 1; most = 1 } ∷ [] }) (Group 1) 0 ≡ (1, 1))
     × (range_between (record base_scenario { links = record { sender = Client; to = 1; least = 2; most = 3 } ∷ record { sender = Group 1; to = 0; least = 1; most = 1 } ∷ [] }) (Group 0) 1 ≡ (1, 3))

@@ -1,7 +1,7 @@
 -- What a scenario says, as plain data: groups and messages go by number, from 0, in the order of the text.
-use Rattle.std.specs.Prelude.{ℕ, ◌+◌, nat_lt, Bool, true, false, ◌==◌, ◌&&◌, List, [], length, find, slice_index_or, Option, IsTrue}
+use Rattle.std.specs.Prelude.{ℕ, ◌+◌, nat_lt, Bool, true, false, ◌==◌, ◌&&◌, ◌||◌, not, List, [], length, find, slice_index_or, Option, IsTrue}
 use Rattle.std.specs.List.{list_any, range_with_len}
-use Rattle.std.specs.Option.{option_map_or}
+use Rattle.std.specs.Option.{is_some, option_map_or}
 use Rattle.convoy_scenario.specs.declared.sender.Sender.{Sender}
 use Rattle.convoy_scenario.specs.declared.sender.Sender.TheVariants.{Client, Group}
 use Rattle.convoy_draft.specs.declared.time.Time.{Time}
@@ -89,6 +89,10 @@ is_same_sender (Group g) Client = false
 -- the link from the one to the other, if there is one
 abbrev pub link_between : List Link → Sender → ℕ → Option Link
 link_between links sender to = find (λ link. is_same_sender sender link.sender && (to == link.to)) links
+
+-- what the one sends to the other takes time: they are two places, or a group has a link to itself
+abbrev pub takes_time : Scenario → Sender → ℕ → Bool
+takes_time scenario sender to = not (is_same_sender sender (Group to)) || is_some (link_between scenario.links sender to)
 
 -- the least and the greatest delay of what goes from the one to the other: those of their link, or 1 and D
 abbrev pub range_between : Scenario → Sender → ℕ → ℕ × ℕ

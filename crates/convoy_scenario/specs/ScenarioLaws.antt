@@ -8,7 +8,8 @@ use Rattle.convoy_draft.specs.Draft.{Draft}
 use Rattle.convoy_scenario.specs.Naming.{draft_for}
 use Rattle.convoy_scenario.specs.Numbering.{in_order, links_of_draft, place, scenario_of_draft}
 use Rattle.convoy_scenario.specs.declared.sender.Sender.{Sender}
-use Rattle.convoy_scenario.specs.Scenario.{Link, Scenario, group_name_at, message_at, range_between}
+use Rattle.convoy_scenario.specs.declared.sender.Sender.TheVariants.{Group}
+use Rattle.convoy_scenario.specs.Scenario.{Link, Scenario, group_name_at, message_at, range_between, takes_time}
 use Rattle.convoy_scenario.specs.WellFormed.{IsScenario, ascend_after, is_whole}
 
 -- what is made of a draft is a well-formed scenario
@@ -61,3 +62,15 @@ abbrev pub OrderKeepsRanges : Type 0
 OrderKeepsRanges =
     (draft : Draft) (scenario : Scenario) (sender : Sender) (to : ℕ) → scenario_of_draft draft ≡ Ok scenario
     → range_between scenario sender to ≡ range_between (record scenario { links = links_of_draft draft }) sender to
+
+-- .. nor does it change what takes time: a link from a group to itself is never left out
+abbrev pub OrderKeepsWhatTakesTime : Type 0
+OrderKeepsWhatTakesTime =
+    (draft : Draft) (scenario : Scenario) (sender : Sender) (to : ℕ) → scenario_of_draft draft ≡ Ok scenario
+    → takes_time scenario sender to ≡ takes_time (record scenario { links = links_of_draft draft }) sender to
+
+-- What a place sends to another one takes time; so two scenarios in which the same groups have links to themselves agree in what takes time.
+abbrev pub HomesDecideWhatTakesTime : Type 0
+HomesDecideWhatTakesTime =
+    (scenario other : Scenario) → ((g : ℕ) → takes_time other (Group g) g ≡ takes_time scenario (Group g) g)
+    → (sender : Sender) (to : ℕ) → takes_time other sender to ≡ takes_time scenario sender to

@@ -27,15 +27,14 @@ pub record IsMulticast (groups : ℕ) (message : Message) : Type 0 where
   pub at : message.at ≤ GREATEST_AT
   pub wait : message.longest_wait ≤ LONGEST_WAIT
 
--- the link has the range of what has no link: 1 to D
+-- the link says what holds without it: it leads to another place, and has the range of what has no link: 1 to D
 abbrev pub is_whole : ℕ → Link → Bool
-is_whole delay link = (link.least == 1) && (link.most == delay)
+is_whole delay link = (link.least == 1) && (link.most == delay) && not (is_same_sender link.sender (Group link.to))
 
--- a link among so many groups, where D is so much: from a client or a group to another group, with a range within 1 to D that is not the whole of it
+-- a link among so many groups, where D is so much: from a client or a group to a group, itself perhaps, with a range within 1 to D, which to another place is not the whole of it
 pub record IsLink (groups delay : ℕ) (link : Link) : Type 0 where
   pub sender : IsSender groups link.sender
   pub to : link.to < groups
-  pub apart : IsTrue (not (is_same_sender link.sender (Group link.to)))
   pub low : 1 ≤ link.least
   pub ordered : link.least ≤ link.most
   pub high : link.most ≤ delay

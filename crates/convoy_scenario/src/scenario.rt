@@ -1,7 +1,7 @@
 ghost use Rattle.std.specs.Prelude.{◌≡◌, ◌<◌, ℕ, length, IfOk, IsTrue};
 ghost use Rattle.std.specs.List.{list_any};
 ghost use Rattle.convoy_scenario.specs.Room.{HasRoom};
-ghost use Rattle.convoy_scenario.specs.Scenario.{GoesTo, message_at, may_wait, is_timed, group_name_at, range_between, Message, Scenario};
+ghost use Rattle.convoy_scenario.specs.Scenario.{GoesTo, message_at, may_wait, is_timed, group_name_at, range_between, takes_time, Message, Scenario};
 ghost use Rattle.convoy_scenario.specs.Targets.{may_be_target, with_target};
 ghost use Rattle.convoy_scenario.specs.WellFormed.{IsScenario};
 ghost use Rattle.convoy_scenario.specs.Widened.{target_wait, widened, widened_message};
@@ -297,6 +297,13 @@ impl Scenario {
         ensures lawful { IsScenario self.now }
     {
         self.links.as_slice()
+    }
+
+    /// Whether what a sender sends to the group `to` takes time: they are two places, or the group has a link to itself.
+    pub fn takes_time(&self, sender: Sender, to: usize) -> bool
+        ensures { result ≡ takes_time self.now sender to }
+    {
+        sender != Sender::Group(to) || link_between(&self.links, sender, to).is_some()
     }
 
     /// The least and the greatest delay, in ticks, of what goes from a sender to the group `to`.

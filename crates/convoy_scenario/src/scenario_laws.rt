@@ -2,7 +2,7 @@
 //! that needs the law calls the function.
 
 ghost use Rattle.convoy_scenario.specs.ScenarioLaws.{DraftsGiveScenarios, ScenariosHaveDrafts, LinksHaveDrafts, TargetsAreGroups, LinksAreFew};
-ghost use Rattle.convoy_scenario.specs.ScenarioLaws.{JudgedRulesHold, DifferentNamesAreDistinct, NamesHavePlaces, TargetsAreNamed, OrderedLinksStay, OrderKeepsRanges};
+ghost use Rattle.convoy_scenario.specs.ScenarioLaws.{JudgedRulesHold, DifferentNamesAreDistinct, NamesHavePlaces, TargetsAreNamed, OrderedLinksStay, OrderKeepsRanges, OrderKeepsWhatTakesTime, HomesDecideWhatTakesTime};
 
 /// What is made of a draft is a well-formed scenario.
 pub fn drafts_give_scenarios()
@@ -58,4 +58,14 @@ pub fn ordered_links_stay()
 /// where none is, though the links of a scenario stand in order and those with the whole range are left out.
 pub fn order_keeps_ranges()
     ensures { OrderKeepsRanges }
+{}
+
+/// Nor does that change what takes time: a link from a group to itself is never left out.
+pub fn order_keeps_what_takes_time()
+    ensures { OrderKeepsWhatTakesTime }
+{}
+
+/// Two scenarios in which the same groups have links to themselves agree in what takes time.
+pub fn homes_decide_what_takes_time()
+    ensures { HomesDecideWhatTakesTime }
 {}

@@ -149,7 +149,7 @@ alike_few draft few =
                                             λ target. (
                                               ap (λ ms. is_target_addressed (with_messages draft ms)) same,
                                               refl,
-                                              λ addressed. (refl, refl, λ elsewhere. tt),
+                                              λ addressed. tt,
                                             ),
                                           ),
                                     ),

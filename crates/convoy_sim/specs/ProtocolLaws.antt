@@ -1,7 +1,7 @@
 -- The laws of the protocol: what holds of each scenario and each schedule of delays.
 use Rattle.std.specs.Prelude.{◌≡◌, ◌≢◌, ◌⊎◌, ℕ, ◌+◌, ◌*◌, ◌<◌, ◌≤◌, nat_le, List, ◌∷◌, length, IsTrue, IsFalse}
 use Rattle.std.specs.List.{filter}
-use Rattle.convoy_scenario.specs.Scenario.{Scenario, GoesTo, message_at, is_sent_by}
+use Rattle.convoy_scenario.specs.Scenario.{Scenario, GoesTo, message_at, takes_time}
 use Rattle.convoy_scenario.specs.WellFormed.{IsScenario}
 use Rattle.convoy_packets.specs.Assignment.{Schedule, IsAssignment, in_fixed_order}
 use Rattle.convoy_sim.specs.Times.{Tick, issue, arrive, settle}
@@ -101,10 +101,10 @@ OrderLaw =
     → (g : ℕ) → GoesTo scenario m g → GoesTo scenario n g
     → deliver scenario schedule m g ≤ deliver scenario schedule n g
 
--- A message arrives at the group that sends it as it is issued.
+-- A message arrives at the group that sends it as it is issued, unless that has a link to itself.
 abbrev pub SenderHasItAtOnce : Type 0
 SenderHasItAtOnce =
-    (scenario : Scenario) (schedule : Schedule) (m g : ℕ) → IsTrue (is_sent_by (message_at scenario m) g)
+    (scenario : Scenario) (schedule : Schedule) (m g : ℕ) → IsFalse (takes_time scenario (message_at scenario m).sender g)
     → arrive scenario schedule m g ≡ issue scenario schedule m
 
 -- A message arrives at a group within D ticks of its issue.

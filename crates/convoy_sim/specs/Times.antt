@@ -17,7 +17,7 @@ greatest xs = fold max 0 xs
 abbrev pub issue : Scenario → Schedule → ℕ → Tick
 issue scenario schedule m = (message_at scenario m).at + delay_of scenario schedule (Wait m)
 
--- Arrival, the tick at which message m arrives at group g: its issue and the delay of its packet to g. To the group that sends it there is no packet, so it arrives there as it is issued.
+-- Arrival, the tick at which message m arrives at group g: its issue and the delay of its packet to g. To the group that sends it there is no packet, unless that has a link to itself, so it arrives there as it is issued.
 unfoldable pub arrive : Scenario → Schedule → ℕ → ℕ → Tick
 arrive scenario schedule m g = issue scenario schedule m + delay_of scenario schedule (Multicast m g)
 

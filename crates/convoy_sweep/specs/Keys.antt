@@ -1,5 +1,5 @@
 -- The keys of a text that a sweep gives values, and the scenario that is written where such a key has another value.
-use Rattle.std.specs.Prelude.{ℕ, pos, Bool, true, false, ◌&&◌, ◌||◌, not, if◌then◌else◌, List, ◌++◌, map, count_by, codes, Option, Some, None}
+use Rattle.std.specs.Prelude.{ℕ, pos, Bool, true, false, ◌&&◌, ◌||◌, not, if◌then◌else◌, List, ◌++◌, length, ◌==◌, map, count_by, codes, Option, Some, None}
 use Rattle.std.specs.List.{list_any}
 use Rattle.std.specs.Str.{bytes_eq}
 use Rattle.convoy_draft.specs.declared.fault.Key.{Key}
@@ -18,19 +18,23 @@ use Rattle.convoy_sweep.specs.declared.kinds.SweepKey.TheVariants.{Delay, At, Un
 abbrev pub way_name : List ℕ → List ℕ → List ℕ
 way_name sender to = sender ++ codes "-" ++ to
 
--- the name is that of the way from the sender to the group, which are two places
-abbrev pub names_way : List ℕ → List ℕ → List ℕ → Bool
-names_way name sender to = not (bytes_eq sender to) && bytes_eq name (way_name sender to)
+-- the name is that of the way from the sender to the group, which are two places, or one where these are all of a table
+abbrev pub names_way : Bool → List ℕ → List ℕ → List ℕ → Bool
+names_way are_all name sender to = (are_all || not (bytes_eq sender to)) && bytes_eq name (way_name sender to)
+
+-- one leads to one
+abbrev pub is_one_to_one : List (List ℕ) → List (List ℕ) → Bool
+is_one_to_one senders groups = (length senders == 1) && (length groups == 1)
 
 -- the name is that of a way from one of these to one of those
 abbrev pub is_way_between : List ℕ → List (List ℕ) → List (List ℕ) → Bool
-is_way_between name senders groups = list_any (λ sender. list_any (names_way name sender) groups) senders
+is_way_between name senders groups = list_any (λ sender. list_any (names_way (is_one_to_one senders groups) name sender) groups) senders
 
 -- the name is that of a way on which a link of the table leads, there or back; nothing goes back to clients
 abbrev pub names_link : List ℕ → LinkEnds → Bool
 names_link name ends = by_senders ends.senders where
   by_senders : Option (List (List ℕ)) → Bool
-  by_senders None = list_any (names_way name client_word) ends.to
+  by_senders None = list_any (names_way false name client_word) ends.to
   by_senders (Some groups) = is_way_between name groups ends.to || (ends.both && is_way_between name ends.to groups)
 
 -- how many tables of the text the key names

@@ -55,7 +55,7 @@ pub(crate) fn names_link(name: &Name, ends: &LinkEnds) -> bool
             is_way_between(name, senders, &ends.to)
                 || (ends.both && is_way_between(name, &ends.to, senders))
         }
-        None => is_way_from(name, "client", &ends.to),
+        None => is_way_from(false, name, "client", &ends.to),
     }
 }
 
@@ -63,25 +63,23 @@ pub(crate) fn names_link(name: &Name, ends: &LinkEnds) -> bool
 fn is_way_between(name: &Name, senders: &[Name], groups: &[Name]) -> bool
     ensures { result ≡ is_way_between name.now senders.now groups.now }
 {
-    senders
-        .iter()
-        .any(|sender| is_way_from(name, sender.as_str(), groups))
+    let are_all = senders.len() == 1 && groups.len() == 1;
+    senders.iter().any(|sender| is_way_from(are_all, name, sender.as_str(), groups))
 }
 
-/// Whether the name is that of a way from that sender to one of the groups.
-fn is_way_from(name: &Name, sender: &str, groups: &[Name]) -> bool
-    ensures { result ≡ list_any (names_way name.now sender.now) groups.now }
+/// Whether the name is that of a way from that sender to one of the groups, which may be all of a table.
+fn is_way_from(are_all: bool, name: &Name, sender: &str, groups: &[Name]) -> bool
+    ensures { result ≡ list_any (names_way are_all name.now sender.now) groups.now }
 {
-    groups
-        .iter()
-        .any(|group| names_way(name.as_str(), sender, group.as_str()))
+    groups.iter().any(|group| names_way(are_all, name.as_str(), sender, group.as_str()))
 }
 
-/// Whether the name is that of the way from the sender to the group, which are two places.
-fn names_way(name: &str, sender: &str, to: &str) -> bool
-    ensures { result ≡ names_way name.now sender.now to.now }
+/// Whether the name is that of the way from the sender to the group, which are two places, or one where these are all of a
+/// table.
+fn names_way(are_all: bool, name: &str, sender: &str, to: &str) -> bool
+    ensures { result ≡ names_way are_all name.now sender.now to.now }
 {
-    sender != to && is_joined(name.as_bytes(), sender.as_bytes(), to.as_bytes())
+    (are_all || sender != to) && is_joined(name.as_bytes(), sender.as_bytes(), to.as_bytes())
 }
 
 /// Whether a text is these two with a dash between them.

@@ -2,10 +2,10 @@
 use Rattle.std.proofs.Common.{◌≡◌, refl, true, false, pos, negsuc, [], ◌∷◌, Option, Some, None, ℕ, ℤ, List, Result, Ok, Err, codes}
 use Rattle.toml.specs.Data.{Data, Items, no_items, item, Members, no_members, member, string, integer, boolean, array, table}
 use Rattle.convoy_draft.specs.declared.fault.ScenarioFault.{ScenarioFault}
-use Rattle.convoy_draft.specs.declared.fault.ScenarioFault.TheVariants.{Shape, NotWhole, OverLimit, NoDestination, LinkToItself, NoRange}
+use Rattle.convoy_draft.specs.declared.fault.ScenarioFault.TheVariants.{Shape, NotWhole, OverLimit, NoDestination, NoRange}
 use Rattle.convoy_draft.specs.declared.fault.Key.TheVariants as key
 use Rattle.convoy_draft.specs.declared.fault.Limit.TheVariants as limit
-use Rattle.convoy_scenario.specs.declared.sender.Sender.TheVariants.{Client}
+use Rattle.convoy_scenario.specs.declared.sender.Sender.TheVariants.{Client, Group}
 use Rattle.convoy_draft.specs.declared.time.Time.{Time}
 use Rattle.convoy_draft.specs.declared.time.Time.TheVariants.{Ticks, Real}
 use Rattle.convoy_draft.specs.Durations.{duration_of}
@@ -146,7 +146,8 @@ both_before_unknown : linked (string (codes "a")) (member (codes "both") (boolea
 unfolding link_of_table
 both_before_unknown = refl
 
-link_to_itself_alone : linked (array (item (string (codes "a")) no_items)) (member (codes "from") (string (codes "a")) (member (codes "both") (boolean false) no_members)) ≡ Err LinkToItself
+link_to_itself_alone : linked (array (item (string (codes "a")) no_items)) (member (codes "from") (string (codes "a")) (member (codes "both") (boolean false) no_members))
+    ≡ Ok (record (lone (codes "a" ∷ []) 0) { links = record { sender = Group 0; to = 0; least = 1; most = 2 } ∷ [] })
 unfolding link_of_table
 link_to_itself_alone = refl
 

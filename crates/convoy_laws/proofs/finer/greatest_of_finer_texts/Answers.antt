@@ -7,6 +7,7 @@ returns c =
       in_finer = c.greatest_in_finer_ticks.ensures;
       in_whole = c.greatest_is_whole.ensures;
       keeps = c.order_keeps_ranges.ensures;
+      takes = c.order_keeps_what_takes_time.ensures;
       drafts = c.drafts_give_scenarios.ensures;
       roundable = c.scenarios_are_roundable.ensures;
     })
