@@ -10,6 +10,7 @@ pub use verdict::Verdict;
 pub use word_hints::hint_for_words;
 
 mod asking;
+mod commands;
 mod escaping;
 mod help;
 mod input;

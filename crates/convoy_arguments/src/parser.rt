@@ -1,7 +1,8 @@
 //! The command line as `clap` is told of it.
 
+use super::commands::{COMMANDS, Listed};
 use super::help::{ABOUT, ABOUT_FILE, ABOUT_JUDGED, ABOUT_QUIET, AFTER, LONG_ABOUT};
-use super::settings::{COMMANDS, Company, Listed, Setting, Value};
+use super::settings::{Company, Setting, Value};
 use clap::{Arg, ArgAction, Command};
 use std::alloc::{AllocError, Global};
 

@@ -1,69 +1,22 @@
-//! The commands and their options, in the order in which help lists them.
+//! The options of the commands: which value each has, and beside which others it may stand.
 
 use super::help::{
-    ABOUT_ALL, ABOUT_ALL_CHANGES, ABOUT_ALL_DEADLINES, ABOUT_ALL_TARGETS, ABOUT_ANALYSE,
-    ABOUT_AROUND, ABOUT_AT_MOST, ABOUT_BATCH, ABOUT_BATCH_AT_MOST, ABOUT_BATCH_FORMAT,
-    ABOUT_BESIDE, ABOUT_BOUNDS, ABOUT_BUDGET, ABOUT_BY_CEILING, ABOUT_CEILING, ABOUT_CEILINGS_JOBS,
-    ABOUT_CERTIFYING, ABOUT_CHECK, ABOUT_DRAW, ABOUT_EACH_AROUND, ABOUT_ENVELOPE, ABOUT_EXPLAIN,
-    ABOUT_FIRST, ABOUT_FIRST_PLACEMENTS, ABOUT_FITS, ABOUT_FORMAT, ABOUT_GROUP, ABOUT_JOBS,
-    ABOUT_KINDS, ABOUT_LATENCY, ABOUT_LEAST, ABOUT_LIMIT, ABOUT_LINKS_FORMAT, ABOUT_LINKS_UNIT,
-    ABOUT_LISTING, ABOUT_MARGIN, ABOUT_OF_CEILING, ABOUT_OF_PLAN, ABOUT_ORDER, ABOUT_PACKETS,
-    ABOUT_PLACED_TARGETS, ABOUT_PLACING, ABOUT_PLAN, ABOUT_PROGRESS, ABOUT_RANGES, ABOUT_REPORT,
-    ABOUT_SCENARIO, ABOUT_SECONDS, ABOUT_SEEK, ABOUT_SEEK_TRAFFIC, ABOUT_SET, ABOUT_SIMULATE,
-    ABOUT_SKEW, ABOUT_SPEED, ABOUT_STATUS, ABOUT_STEPS, ABOUT_SURVEY, ABOUT_SWEEP,
-    ABOUT_SWEEP_FORMAT, ABOUT_TARGET, ABOUT_TELL, ABOUT_TICK, ABOUT_TIMELINE, ABOUT_TRACE,
-    ABOUT_TRACE_CHECK, ABOUT_TRACE_UNIT, ABOUT_UNIT, ABOUT_WANTED, ABOUT_WHY, ABOUT_WHY_THERE,
-    ABOUT_WITHOUT, ABOUT_WORKERS, LONG_ABOUT_ANALYSE, LONG_ABOUT_BATCH, LONG_ABOUT_BUDGET,
-    LONG_ABOUT_CEILING, LONG_ABOUT_CHECK, LONG_ABOUT_DRAW, LONG_ABOUT_EXPLAIN, LONG_ABOUT_FIRST,
-    LONG_ABOUT_FITS, LONG_ABOUT_LATENCY, LONG_ABOUT_ORDER, LONG_ABOUT_PACKETS, LONG_ABOUT_PLAN,
-    LONG_ABOUT_RANGES, LONG_ABOUT_REPORT, LONG_ABOUT_SCENARIO, LONG_ABOUT_SIMULATE,
-    LONG_ABOUT_SURVEY, LONG_ABOUT_SWEEP, LONG_ABOUT_TIMELINE,
+    ABOUT_ALL, ABOUT_ALL_CHANGES, ABOUT_ALL_DEADLINES, ABOUT_ALL_TARGETS, ABOUT_AROUND,
+    ABOUT_AT_MOST, ABOUT_BATCH_AT_MOST, ABOUT_BATCH_FORMAT, ABOUT_BESIDE, ABOUT_BOUNDS,
+    ABOUT_BY_CEILING, ABOUT_CEILINGS_JOBS, ABOUT_CERTIFYING, ABOUT_EACH_AROUND, ABOUT_ENVELOPE,
+    ABOUT_FIRST_PLACEMENTS, ABOUT_FORMAT, ABOUT_GROUP, ABOUT_JOBS, ABOUT_KINDS, ABOUT_LEAST,
+    ABOUT_LIMIT, ABOUT_LINKS_FORMAT, ABOUT_LINKS_UNIT, ABOUT_LISTING, ABOUT_MARGIN,
+    ABOUT_OF_CEILING, ABOUT_OF_PLAN, ABOUT_PLACED_TARGETS, ABOUT_PLACING, ABOUT_PROGRESS,
+    ABOUT_SECONDS, ABOUT_SEEK, ABOUT_SEEK_TRAFFIC, ABOUT_SET, ABOUT_SKEW, ABOUT_SPEED,
+    ABOUT_STATUS, ABOUT_STEPS, ABOUT_SWEEP_FORMAT, ABOUT_TARGET, ABOUT_TELL, ABOUT_TICK,
+    ABOUT_TRACE, ABOUT_TRACE_CHECK, ABOUT_TRACE_UNIT, ABOUT_UNIT, ABOUT_WANTED, ABOUT_WHY,
+    ABOUT_WHY_THERE, ABOUT_WITHOUT, ABOUT_WORKERS,
 };
 use super::limits::MOST_SECONDS;
 use clap::builder::ValueParser;
 use convoy_commands::{
     DEFAULT_SIMULATIONS, DEFAULT_STEPS, MOST_SIMULATIONS, MOST_STEPS, MOST_TICKETS, MOST_WORKERS,
 };
-
-/// A command, with its options but for those that all commands have. Each reads a text, from a file where one
-/// is named.
-#[derive(Clone, Copy)]
-pub(crate) struct Listed {
-    pub(crate) name: &'static str,
-    pub(crate) about: &'static str,
-    pub(crate) long_about: &'static str,
-    pub(crate) settings: &'static [Setting],
-}
-
-impl Listed {
-    /// Whether the file of a scenario is named before that of the text.
-    pub(crate) fn reads_scenario(&self) -> bool {
-        self.name == "fits"
-    }
-
-    /// The option of that name, where the command has it.
-    pub(crate) fn setting(&self, name: &str) -> Option<Setting> {
-        self.settings
-            .iter()
-            .find(|setting| setting.name == name)
-            .copied()
-    }
-}
-
-/// The command of that name.
-pub(crate) fn command_named(name: &str) -> Option<Listed> {
-    COMMANDS.iter().find(|listed| listed.name == name).copied()
-}
-
-/// The option of that name, of the first command that has it.
-pub(crate) fn setting_named(name: &str) -> Option<Setting> {
-    for listed in COMMANDS {
-        if let Some(setting) = listed.setting(name) {
-            return Some(setting);
-        }
-    }
-    None
-}
 
 /// An option of a command.
 #[derive(Clone, Copy)]
@@ -134,7 +87,7 @@ const _: () = prove!(DEFAULT_SIMULATIONS == 20_000);
 const _: () = prove!(DEFAULT_STEPS == 100_000_000);
 
 /// The limit of a search.
-const LIMIT: Setting = Setting {
+pub(crate) const LIMIT: Setting = Setting {
     name: "limit",
     about: ABOUT_LIMIT,
     value: Value::Given("N", ValueParser::Unsigned(1, MOST_TICKETS)),
@@ -142,7 +95,7 @@ const LIMIT: Setting = Setting {
 };
 
 /// The unit of a trace.
-const TRACE_UNIT: Setting = Setting {
+pub(crate) const TRACE_UNIT: Setting = Setting {
     name: "unit",
     about: ABOUT_TRACE_UNIT,
     value: UNITS,
@@ -150,7 +103,7 @@ const TRACE_UNIT: Setting = Setting {
 };
 
 /// By how much the clocks of a trace may be wrong.
-const SKEW: Setting = Setting {
+pub(crate) const SKEW: Setting = Setting {
     name: "skew",
     about: ABOUT_SKEW,
     value: Value::Given("TIME", ValueParser::String),
@@ -158,7 +111,7 @@ const SKEW: Setting = Setting {
 };
 
 /// The limit of a check.
-const STEPS: Setting = Setting {
+pub(crate) const STEPS: Setting = Setting {
     name: "limit",
     about: ABOUT_STEPS,
     value: Value::Usual("N", ValueParser::Unsigned(1, MOST_STEPS), "100000000"),
@@ -166,7 +119,7 @@ const STEPS: Setting = Setting {
 };
 
 /// After how many seconds a search stops.
-const SECONDS: Setting = Setting {
+pub(crate) const SECONDS: Setting = Setting {
     name: "seconds",
     about: ABOUT_SECONDS,
     value: Value::Given("S", ValueParser::Unsigned(1, MOST_SECONDS as u64)),
@@ -174,7 +127,7 @@ const SECONDS: Setting = Setting {
 };
 
 /// How many schedules are simulated before a search.
-const SEEK: Setting = Setting {
+pub(crate) const SEEK: Setting = Setting {
     name: "seek",
     about: ABOUT_SEEK,
     value: SIMULATIONS,
@@ -182,7 +135,7 @@ const SEEK: Setting = Setting {
 };
 
 /// How many schedules are simulated to find traffic.
-const SEEK_TRAFFIC: Setting = Setting {
+pub(crate) const SEEK_TRAFFIC: Setting = Setting {
     name: "seek",
     about: ABOUT_SEEK_TRAFFIC,
     value: SIMULATIONS,
@@ -190,7 +143,7 @@ const SEEK_TRAFFIC: Setting = Setting {
 };
 
 /// By which bounds a search goes.
-const BOUNDS: Setting = Setting {
+pub(crate) const BOUNDS: Setting = Setting {
     name: "bounds",
     about: ABOUT_BOUNDS,
     value: Value::Given(
@@ -201,7 +154,7 @@ const BOUNDS: Setting = Setting {
 };
 
 /// How many workers share a search.
-const WORKERS: Setting = Setting {
+pub(crate) const WORKERS: Setting = Setting {
     name: "workers",
     about: ABOUT_WORKERS,
     value: Value::Usual("N", ValueParser::Signed(1, MOST_WORKERS as i64), "1"),
@@ -209,7 +162,7 @@ const WORKERS: Setting = Setting {
 };
 
 /// How many rows of a table are made at a time.
-const JOBS: Setting = Setting {
+pub(crate) const JOBS: Setting = Setting {
     name: "jobs",
     about: ABOUT_JOBS,
     value: ROWS_AT_A_TIME,
@@ -217,7 +170,7 @@ const JOBS: Setting = Setting {
 };
 
 /// The same of a batch, which has rows where it is written as a table.
-const BATCH_JOBS: Setting = Setting {
+pub(crate) const BATCH_JOBS: Setting = Setting {
     name: "jobs",
     about: ABOUT_JOBS,
     value: ROWS_AT_A_TIME,
@@ -225,7 +178,7 @@ const BATCH_JOBS: Setting = Setting {
 };
 
 /// The same of ceilings, of which there are rows where several are asked for.
-const CEILINGS_JOBS: Setting = Setting {
+pub(crate) const CEILINGS_JOBS: Setting = Setting {
     name: "jobs",
     about: ABOUT_CEILINGS_JOBS,
     value: ROWS_AT_A_TIME,
@@ -233,7 +186,7 @@ const CEILINGS_JOBS: Setting = Setting {
 };
 
 /// Whether a search tells how far it has come.
-const PROGRESS: Setting = Setting {
+pub(crate) const PROGRESS: Setting = Setting {
     name: "progress",
     about: ABOUT_PROGRESS,
     value: Value::Absent,
@@ -241,7 +194,7 @@ const PROGRESS: Setting = Setting {
 };
 
 /// Whether an answer has the ceiling beside it.
-const CEILING: Setting = Setting {
+pub(crate) const CEILING: Setting = Setting {
     name: "ceiling",
     about: ABOUT_BESIDE,
     value: Value::Absent,
@@ -249,7 +202,7 @@ const CEILING: Setting = Setting {
 };
 
 /// Whether a survey has ceilings: of one target it has none.
-const SURVEY_CEILING: Setting = Setting {
+pub(crate) const SURVEY_CEILING: Setting = Setting {
     name: "ceiling",
     about: ABOUT_BESIDE,
     value: Value::Absent,
@@ -257,7 +210,7 @@ const SURVEY_CEILING: Setting = Setting {
 };
 
 /// Whether the exit status of a batch tells how its jobs end.
-const STATUS: Setting = Setting {
+pub(crate) const STATUS: Setting = Setting {
     name: "status",
     about: ABOUT_STATUS,
     value: Value::Absent,
@@ -265,7 +218,7 @@ const STATUS: Setting = Setting {
 };
 
 /// How the table of a survey is written.
-const FORMAT: Setting = Setting {
+pub(crate) const FORMAT: Setting = Setting {
     name: "format",
     about: ABOUT_FORMAT,
     value: FORMATS,
@@ -273,7 +226,7 @@ const FORMAT: Setting = Setting {
 };
 
 /// How a batch is written as a table.
-const BATCH_FORMAT: Setting = Setting {
+pub(crate) const BATCH_FORMAT: Setting = Setting {
     name: "format",
     about: ABOUT_BATCH_FORMAT,
     value: FORMATS,
@@ -281,7 +234,7 @@ const BATCH_FORMAT: Setting = Setting {
 };
 
 /// How a sweep is written: as a table, or as a curve.
-const SWEEP_FORMAT: Setting = Setting {
+pub(crate) const SWEEP_FORMAT: Setting = Setting {
     name: "format",
     about: ABOUT_SWEEP_FORMAT,
     value: Value::Given(
@@ -292,7 +245,7 @@ const SWEEP_FORMAT: Setting = Setting {
 };
 
 /// How a table of ceilings is written.
-const CEILINGS_FORMAT: Setting = Setting {
+pub(crate) const CEILINGS_FORMAT: Setting = Setting {
     name: "format",
     about: ABOUT_FORMAT,
     value: FORMATS,
@@ -300,7 +253,7 @@ const CEILINGS_FORMAT: Setting = Setting {
 };
 
 /// Whether the ceilings of all targets are asked for.
-const ALL: Setting = Setting {
+pub(crate) const ALL: Setting = Setting {
     name: "all",
     about: ABOUT_ALL,
     value: Value::Absent,
@@ -308,7 +261,7 @@ const ALL: Setting = Setting {
 };
 
 /// The group at which the ceilings of all messages are asked for.
-const GROUP: Setting = Setting {
+pub(crate) const GROUP: Setting = Setting {
     name: "group",
     about: ABOUT_GROUP,
     value: Value::Given("GROUP", ValueParser::String),
@@ -316,7 +269,7 @@ const GROUP: Setting = Setting {
 };
 
 /// Whether the text is one of kinds of messages, which has no messages with deadlines.
-const KINDS: Setting = Setting {
+pub(crate) const KINDS: Setting = Setting {
     name: "kinds",
     about: ABOUT_KINDS,
     value: Value::Absent,
@@ -324,7 +277,7 @@ const KINDS: Setting = Setting {
 };
 
 /// Whether a survey is one of changes.
-const WITHOUT: Setting = Setting {
+pub(crate) const WITHOUT: Setting = Setting {
     name: "without",
     about: ABOUT_WITHOUT,
     value: Value::Absent,
@@ -332,7 +285,7 @@ const WITHOUT: Setting = Setting {
 };
 
 /// Whether a survey of changes has a row for each, also where nothing changes.
-const ALL_CHANGES: Setting = Setting {
+pub(crate) const ALL_CHANGES: Setting = Setting {
     name: "all",
     about: ABOUT_ALL_CHANGES,
     value: Value::Absent,
@@ -340,7 +293,7 @@ const ALL_CHANGES: Setting = Setting {
 };
 
 /// The deadline of messages to which the text gives none.
-const AT_MOST: Setting = Setting {
+pub(crate) const AT_MOST: Setting = Setting {
     name: "at-most",
     about: ABOUT_AT_MOST,
     value: Value::Given("TIME", ValueParser::String),
@@ -348,7 +301,7 @@ const AT_MOST: Setting = Setting {
 };
 
 /// The deadline of the messages of a batch to which their texts give none.
-const BATCH_AT_MOST: Setting = Setting {
+pub(crate) const BATCH_AT_MOST: Setting = Setting {
     name: "at-most",
     about: ABOUT_BATCH_AT_MOST,
     value: Value::Given("TIME", ValueParser::String),
@@ -356,7 +309,7 @@ const BATCH_AT_MOST: Setting = Setting {
 };
 
 /// Whether all is asked around the target, and how far.
-const AROUND: Setting = Setting {
+pub(crate) const AROUND: Setting = Setting {
     name: "around",
     about: ABOUT_AROUND,
     value: Value::Optional("SPAN", ValueParser::String, GREATEST_SPAN),
@@ -364,7 +317,7 @@ const AROUND: Setting = Setting {
 };
 
 /// The same of a survey: one of changes is of the issue times of the text.
-const SURVEY_AROUND: Setting = Setting {
+pub(crate) const SURVEY_AROUND: Setting = Setting {
     name: "around",
     about: ABOUT_EACH_AROUND,
     value: Value::Optional("SPAN", ValueParser::String, GREATEST_SPAN),
@@ -372,7 +325,7 @@ const SURVEY_AROUND: Setting = Setting {
 };
 
 /// The target.
-const TARGET: Setting = Setting {
+pub(crate) const TARGET: Setting = Setting {
     name: "target",
     about: ABOUT_TARGET,
     value: NAMED_TARGET,
@@ -380,7 +333,7 @@ const TARGET: Setting = Setting {
 };
 
 /// The target of a ceiling, where one alone is asked for.
-const CEILING_TARGET: Setting = Setting {
+pub(crate) const CEILING_TARGET: Setting = Setting {
     name: "target",
     about: ABOUT_TARGET,
     value: NAMED_TARGET,
@@ -388,7 +341,7 @@ const CEILING_TARGET: Setting = Setting {
 };
 
 /// Whether the budgets of all deadlines are asked for.
-const ALL_DEADLINES: Setting = Setting {
+pub(crate) const ALL_DEADLINES: Setting = Setting {
     name: "all",
     about: ABOUT_ALL_DEADLINES,
     value: Value::Absent,
@@ -396,7 +349,7 @@ const ALL_DEADLINES: Setting = Setting {
 };
 
 /// Whether the ceiling has to keep a deadline.
-const OF_CEILING: Setting = Setting {
+pub(crate) const OF_CEILING: Setting = Setting {
     name: "ceiling",
     about: ABOUT_OF_CEILING,
     value: Value::Absent,
@@ -404,7 +357,7 @@ const OF_CEILING: Setting = Setting {
 };
 
 /// The target of a budget, an order or a plan, where one alone is asked for.
-const BUDGET_TARGET: Setting = Setting {
+pub(crate) const BUDGET_TARGET: Setting = Setting {
     name: "target",
     about: ABOUT_TARGET,
     value: NAMED_TARGET,
@@ -412,7 +365,7 @@ const BUDGET_TARGET: Setting = Setting {
 };
 
 /// The target of a survey of changes.
-const CHANGES_TARGET: Setting = Setting {
+pub(crate) const CHANGES_TARGET: Setting = Setting {
     name: "target",
     about: ABOUT_TARGET,
     value: NAMED_TARGET,
@@ -420,7 +373,7 @@ const CHANGES_TARGET: Setting = Setting {
 };
 
 /// Whether an order is to be the best for all messages.
-const ALL_TARGETS: Setting = Setting {
+pub(crate) const ALL_TARGETS: Setting = Setting {
     name: "all",
     about: ABOUT_ALL_TARGETS,
     value: Value::Absent,
@@ -428,7 +381,7 @@ const ALL_TARGETS: Setting = Setting {
 };
 
 /// Whether the reasons are told why no order is better.
-const WHY: Setting = Setting {
+pub(crate) const WHY: Setting = Setting {
     name: "why",
     about: ABOUT_WHY,
     value: Value::Absent,
@@ -436,7 +389,7 @@ const WHY: Setting = Setting {
 };
 
 /// Whether the scenario is written with its groups in the best order, in place of a table.
-const LISTING: Setting = Setting {
+pub(crate) const LISTING: Setting = Setting {
     name: "scenario",
     about: ABOUT_LISTING,
     value: Value::Absent,
@@ -444,7 +397,7 @@ const LISTING: Setting = Setting {
 };
 
 /// Whether a placement and an order are to be the best for all messages.
-const PLACED_TARGETS: Setting = Setting {
+pub(crate) const PLACED_TARGETS: Setting = Setting {
     name: "all",
     about: ABOUT_PLACED_TARGETS,
     value: Value::Absent,
@@ -455,7 +408,7 @@ const PLACED_TARGETS: Setting = Setting {
 const MOST_FIRST: u64 = 100;
 
 /// How many of the best placements are told.
-const FIRST_PLACEMENTS: Setting = Setting {
+pub(crate) const FIRST_PLACEMENTS: Setting = Setting {
     name: "first",
     about: ABOUT_FIRST_PLACEMENTS,
     value: Value::Given("K", ValueParser::Unsigned(1, MOST_FIRST)),
@@ -463,7 +416,7 @@ const FIRST_PLACEMENTS: Setting = Setting {
 };
 
 /// Whether the reasons are told why no order is better at the best placement.
-const WHY_THERE: Setting = Setting {
+pub(crate) const WHY_THERE: Setting = Setting {
     name: "why",
     about: ABOUT_WHY_THERE,
     value: Value::Absent,
@@ -471,7 +424,7 @@ const WHY_THERE: Setting = Setting {
 };
 
 /// Whether the scenario of the best placement is written, in place of a table.
-const PLACING: Setting = Setting {
+pub(crate) const PLACING: Setting = Setting {
     name: "scenario",
     about: ABOUT_PLACING,
     value: Value::Absent,
@@ -479,7 +432,7 @@ const PLACING: Setting = Setting {
 };
 
 /// Whether a certificate of the best choice is written, in place of a table.
-const CERTIFYING: Setting = Setting {
+pub(crate) const CERTIFYING: Setting = Setting {
     name: "certificate",
     about: ABOUT_CERTIFYING,
     value: Value::Absent,
@@ -487,7 +440,7 @@ const CERTIFYING: Setting = Setting {
 };
 
 /// Whether a placement is to be the best by its ceilings, for which nothing is searched that has options.
-const BY_CEILING: Setting = Setting {
+pub(crate) const BY_CEILING: Setting = Setting {
     name: "ceiling",
     about: ABOUT_BY_CEILING,
     value: Value::Absent,
@@ -506,7 +459,7 @@ const BY_CEILING: Setting = Setting {
 };
 
 /// By how much a round trip may be longer than the greatest that was measured.
-const MARGIN: Setting = Setting {
+pub(crate) const MARGIN: Setting = Setting {
     name: "margin",
     about: ABOUT_MARGIN,
     value: Value::Usual("PERCENT", ValueParser::Unsigned(0, 255), "0"),
@@ -514,7 +467,7 @@ const MARGIN: Setting = Setting {
 };
 
 /// Whether a trace is read.
-const TRACE: Setting = Setting {
+pub(crate) const TRACE: Setting = Setting {
     name: "trace",
     about: ABOUT_TRACE,
     value: Value::Absent,
@@ -522,7 +475,7 @@ const TRACE: Setting = Setting {
 };
 
 /// The scenario beside which the links of a trace are told.
-const CHECK: Setting = Setting {
+pub(crate) const CHECK: Setting = Setting {
     name: "check",
     about: ABOUT_TRACE_CHECK,
     value: Value::Given("SCENARIO", ValueParser::String),
@@ -530,7 +483,7 @@ const CHECK: Setting = Setting {
 };
 
 /// How the links of a trace are written as a table.
-const LINKS_FORMAT: Setting = Setting {
+pub(crate) const LINKS_FORMAT: Setting = Setting {
     name: "format",
     about: ABOUT_LINKS_FORMAT,
     value: FORMATS,
@@ -538,7 +491,7 @@ const LINKS_FORMAT: Setting = Setting {
 };
 
 /// The unit of numbers of such a trace that have none.
-const LINKS_UNIT: Setting = Setting {
+pub(crate) const LINKS_UNIT: Setting = Setting {
     name: "unit",
     about: ABOUT_LINKS_UNIT,
     value: UNITS,
@@ -546,7 +499,7 @@ const LINKS_UNIT: Setting = Setting {
 };
 
 /// How fast a signal goes at most.
-const SPEED: Setting = Setting {
+pub(crate) const SPEED: Setting = Setting {
     name: "speed",
     about: ABOUT_SPEED,
     value: Value::Usual("WAY", ValueParser::Names(&["fibre", "air"]), "fibre"),
@@ -554,7 +507,7 @@ const SPEED: Setting = Setting {
 };
 
 /// The least that a packet takes where no distance is known.
-const LEAST: Setting = Setting {
+pub(crate) const LEAST: Setting = Setting {
     name: "least",
     about: ABOUT_LEAST,
     value: Value::Given("DURATION", ValueParser::String),
@@ -562,7 +515,7 @@ const LEAST: Setting = Setting {
 };
 
 /// How long a tick lasts.
-const TICK: Setting = Setting {
+pub(crate) const TICK: Setting = Setting {
     name: "tick",
     about: ABOUT_TICK,
     value: Value::Usual("DURATION", ValueParser::String, "0.1 ms"),
@@ -570,7 +523,7 @@ const TICK: Setting = Setting {
 };
 
 /// Which values a sweep gives a key, once for each key.
-const SET: Setting = Setting {
+pub(crate) const SET: Setting = Setting {
     name: "set",
     about: ABOUT_SET,
     value: Value::Several("KEY=FROM..TO/STEP", ValueParser::String),
@@ -578,7 +531,7 @@ const SET: Setting = Setting {
 };
 
 /// Whether a row of a sweep speaks of all times of issue up to the next value.
-const ENVELOPE: Setting = Setting {
+pub(crate) const ENVELOPE: Setting = Setting {
     name: "envelope",
     about: ABOUT_ENVELOPE,
     value: Value::Absent,
@@ -586,7 +539,7 @@ const ENVELOPE: Setting = Setting {
 };
 
 /// In which unit times are told.
-const UNIT: Setting = Setting {
+pub(crate) const UNIT: Setting = Setting {
     name: "unit",
     about: ABOUT_UNIT,
     value: UNITS,
@@ -594,7 +547,7 @@ const UNIT: Setting = Setting {
 };
 
 /// The scenario that a certificate is to be of.
-const SCENARIO: Setting = Setting {
+pub(crate) const SCENARIO: Setting = Setting {
     name: "scenario",
     about: ABOUT_WANTED,
     value: Value::Given("FILE", ValueParser::String),
@@ -602,7 +555,7 @@ const SCENARIO: Setting = Setting {
 };
 
 /// Whether the certificate stands below a plan.
-const OF_PLAN: Setting = Setting {
+pub(crate) const OF_PLAN: Setting = Setting {
     name: "plan",
     about: ABOUT_OF_PLAN,
     value: Value::Absent,
@@ -610,7 +563,7 @@ const OF_PLAN: Setting = Setting {
 };
 
 /// The target for which it is checked then.
-const PLAN_TARGET: Setting = Setting {
+pub(crate) const PLAN_TARGET: Setting = Setting {
     name: "target",
     about: ABOUT_TARGET,
     value: NAMED_TARGET,
@@ -618,7 +571,7 @@ const PLAN_TARGET: Setting = Setting {
 };
 
 /// Whether it is checked for each message at each group.
-const PLAN_TARGETS: Setting = Setting {
+pub(crate) const PLAN_TARGETS: Setting = Setting {
     name: "all",
     about: ABOUT_ALL_TARGETS,
     value: Value::Absent,
@@ -626,7 +579,7 @@ const PLAN_TARGETS: Setting = Setting {
 };
 
 /// The deadline of messages without one.
-const PLAN_AT_MOST: Setting = Setting {
+pub(crate) const PLAN_AT_MOST: Setting = Setting {
     name: "at-most",
     about: ABOUT_AT_MOST,
     value: Value::Given("TIME", ValueParser::String),
@@ -634,257 +587,9 @@ const PLAN_AT_MOST: Setting = Setting {
 };
 
 /// Whether what is accepted is told.
-const TELL: Setting = Setting {
+pub(crate) const TELL: Setting = Setting {
     name: "tell",
     about: ABOUT_TELL,
     value: Value::Absent,
     company: Company::Any,
 };
-
-/// The commands.
-pub(crate) const COMMANDS: [Listed; 20] = [
-    Listed {
-        name: "analyse",
-        about: ABOUT_ANALYSE,
-        long_about: LONG_ABOUT_ANALYSE,
-        settings: &[
-            TARGET, AROUND, AT_MOST, LIMIT, SECONDS, SEEK, BOUNDS, WORKERS, PROGRESS,
-        ],
-    },
-    Listed {
-        name: "explain",
-        about: ABOUT_EXPLAIN,
-        long_about: LONG_ABOUT_EXPLAIN,
-        settings: &[STEPS, UNIT, CEILING],
-    },
-    Listed {
-        name: "draw",
-        about: ABOUT_DRAW,
-        long_about: LONG_ABOUT_DRAW,
-        settings: &[STEPS, UNIT],
-    },
-    Listed {
-        name: "latency",
-        about: ABOUT_LATENCY,
-        long_about: LONG_ABOUT_LATENCY,
-        settings: &[
-            TARGET, AROUND, AT_MOST, LIMIT, SECONDS, SEEK, BOUNDS, WORKERS, PROGRESS, UNIT, CEILING,
-        ],
-    },
-    Listed {
-        name: "ceiling",
-        about: ABOUT_CEILING,
-        long_about: LONG_ABOUT_CEILING,
-        settings: &[
-            CEILING_TARGET,
-            AT_MOST,
-            ALL,
-            GROUP,
-            KINDS,
-            CEILINGS_FORMAT,
-            UNIT,
-            SEEK_TRAFFIC,
-            CEILINGS_JOBS,
-        ],
-    },
-    Listed {
-        name: "survey",
-        about: ABOUT_SURVEY,
-        long_about: LONG_ABOUT_SURVEY,
-        settings: &[
-            LIMIT,
-            SECONDS,
-            SEEK,
-            BOUNDS,
-            WORKERS,
-            JOBS,
-            PROGRESS,
-            FORMAT,
-            UNIT,
-            SURVEY_CEILING,
-            AT_MOST,
-            SURVEY_AROUND,
-            WITHOUT,
-            CHANGES_TARGET,
-            ALL_CHANGES,
-        ],
-    },
-    Listed {
-        name: "report",
-        about: ABOUT_REPORT,
-        long_about: LONG_ABOUT_REPORT,
-        settings: &[
-            TARGET, AT_MOST, LIMIT, SECONDS, SEEK, BOUNDS, WORKERS, JOBS, PROGRESS, UNIT,
-        ],
-    },
-    Listed {
-        name: "budget",
-        about: ABOUT_BUDGET,
-        long_about: LONG_ABOUT_BUDGET,
-        settings: &[
-            BUDGET_TARGET,
-            AT_MOST,
-            ALL_DEADLINES,
-            OF_CEILING,
-            LIMIT,
-            SECONDS,
-            SEEK,
-            BOUNDS,
-            WORKERS,
-            JOBS,
-            PROGRESS,
-            FORMAT,
-            UNIT,
-        ],
-    },
-    Listed {
-        name: "order",
-        about: ABOUT_ORDER,
-        long_about: LONG_ABOUT_ORDER,
-        settings: &[
-            BUDGET_TARGET,
-            AT_MOST,
-            ALL_TARGETS,
-            WHY,
-            LISTING,
-            LIMIT,
-            SECONDS,
-            SEEK,
-            BOUNDS,
-            WORKERS,
-            JOBS,
-            PROGRESS,
-            FORMAT,
-            UNIT,
-        ],
-    },
-    Listed {
-        name: "plan",
-        about: ABOUT_PLAN,
-        long_about: LONG_ABOUT_PLAN,
-        settings: &[
-            BUDGET_TARGET,
-            AT_MOST,
-            PLACED_TARGETS,
-            BY_CEILING,
-            FIRST_PLACEMENTS,
-            WHY_THERE,
-            PLACING,
-            CERTIFYING,
-            LIMIT,
-            SECONDS,
-            SEEK,
-            BOUNDS,
-            WORKERS,
-            JOBS,
-            PROGRESS,
-            FORMAT,
-            UNIT,
-        ],
-    },
-    Listed {
-        name: "ranges",
-        about: ABOUT_RANGES,
-        long_about: LONG_ABOUT_RANGES,
-        settings: &[
-            MARGIN,
-            SPEED,
-            LEAST,
-            TICK,
-            TRACE,
-            CHECK,
-            LINKS_FORMAT,
-            LINKS_UNIT,
-        ],
-    },
-    Listed {
-        name: "sweep",
-        about: ABOUT_SWEEP,
-        long_about: LONG_ABOUT_SWEEP,
-        settings: &[
-            SET,
-            ENVELOPE,
-            TARGET,
-            AT_MOST,
-            LIMIT,
-            SECONDS,
-            SEEK,
-            BOUNDS,
-            WORKERS,
-            JOBS,
-            PROGRESS,
-            SWEEP_FORMAT,
-            UNIT,
-        ],
-    },
-    Listed {
-        name: "batch",
-        about: ABOUT_BATCH,
-        long_about: LONG_ABOUT_BATCH,
-        settings: &[
-            LIMIT,
-            SECONDS,
-            SEEK,
-            BOUNDS,
-            WORKERS,
-            BATCH_JOBS,
-            PROGRESS,
-            BATCH_AT_MOST,
-            AROUND,
-            STATUS,
-            BATCH_FORMAT,
-            UNIT,
-        ],
-    },
-    Listed {
-        name: "check",
-        about: ABOUT_CHECK,
-        long_about: LONG_ABOUT_CHECK,
-        settings: &[
-            STEPS,
-            SCENARIO,
-            TELL,
-            UNIT,
-            OF_PLAN,
-            PLAN_TARGET,
-            PLAN_TARGETS,
-            PLAN_AT_MOST,
-        ],
-    },
-    Listed {
-        name: "fits",
-        about: ABOUT_FITS,
-        long_about: LONG_ABOUT_FITS,
-        settings: &[SKEW, TRACE_UNIT],
-    },
-    Listed {
-        name: "first",
-        about: ABOUT_FIRST,
-        long_about: LONG_ABOUT_FIRST,
-        settings: &[TARGET, AROUND],
-    },
-    Listed {
-        name: "simulate",
-        about: ABOUT_SIMULATE,
-        long_about: LONG_ABOUT_SIMULATE,
-        settings: &[],
-    },
-    Listed {
-        name: "timeline",
-        about: ABOUT_TIMELINE,
-        long_about: LONG_ABOUT_TIMELINE,
-        settings: &[],
-    },
-    Listed {
-        name: "packets",
-        about: ABOUT_PACKETS,
-        long_about: LONG_ABOUT_PACKETS,
-        settings: &[],
-    },
-    Listed {
-        name: "scenario",
-        about: ABOUT_SCENARIO,
-        long_about: LONG_ABOUT_SCENARIO,
-        settings: &[],
-    },
-];

@@ -1,5 +1,6 @@
+use super::commands::{command_named, setting_named};
 use super::other_options::hint_for_strange;
-use super::settings::{Setting, Value, command_named, setting_named};
+use super::settings::{Setting, Value};
 use convoy_hints_sketch::Quoted;
 use std::alloc::{AllocError, Global};
 use std::convert::AsStr;

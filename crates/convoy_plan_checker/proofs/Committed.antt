@@ -1,5 +1,5 @@
 -- Where some target is too late by its commit alone, no placement with these sites is below the floor.
-use Rattle.std.proofs.Common.{◌≡◌, ℕ, ◌<◌, ◌≤◌, Bool, true, false, not, ◌&&◌, is_some, List, length, Option, Some, None, Ok, nat_lt, refl, sym, ap, subst, ltb-true, arith}
+use Rattle.std.proofs.Common.{◌≡◌, ℕ, ◌<◌, ◌≤◌, Bool, true, false, not, ◌&&◌, List, length, Ok, nat_lt, refl, sym, ap, subst, ltb-true, arith}
 use Rattle.std.specs.List.{Contains}
 use Rattle.std.proofs.lemmas.Bool.{and_parts, false≢true}
 use Rattle.std.proofs.lemmas.List.Elements.{Contains-get_or}
@@ -46,13 +46,8 @@ not_less : (b : Bool) → not b ≡ true → b ≡ false
 not_less false e = refl
 not_less true e = absurd (false≢true e)
 
--- a plan whose ticks have a length
-tick_of_plan : (tick : Option ℕ) → is_some tick ≡ true → (t : ℕ) × (tick ≡ Some t)
-tick_of_plan None is = absurd (false≢true is)
-tick_of_plan (Some t) is = (t, refl)
-
 module _ (used : Used) (wanted : Wanted) (plan : Plan) (is_plan : IsPlan plan) (first : Scenario) (home : List ℕ) (home_made : scenario_at plan home ≡ Ok first)
-    (floor : Floor) (sites : Sites) (tick : ℕ) (long : plan.tick ≡ Some tick) (target : Target) (of_target : (k : ℕ) × (k < length (targets_by wanted plan first)) × (target_at (targets_by wanted plan first) k ≡ target))
+    (floor : Floor) (sites : Sites) (target : Target) (of_target : (k : ℕ) × (k < length (targets_by wanted plan first)) × (target_at (targets_by wanted plan first) k ≡ target))
     (past : IsAtMost (excess_at floor (total_known plan first sites)) (record { latency = commit_known plan first sites target.message target.group; limit = limit_of target })) where
   pub late_not_below : (placement : List ℕ) → Completes placement sites → IsNotBelow wanted plan floor placement
   late_not_below placement all scenario made order in_order_is =
@@ -88,14 +83,12 @@ module _ (used : Used) (wanted : Wanted) (plan : Plan) (is_plan : IsPlan plan) (
 -- the same from the test of a node
 pub commit_not_below : (used : Used) (plan : Plan) (is_plan : IsPlan plan) (claim : Claim) (home : List ℕ) → scenario_at plan home ≡ Ok claim.scenario
     → claim.targets ≡ targets_by claim.wanted plan claim.scenario → (sites : Sites) (k : ℕ)
-    → (is_some plan.tick && nat_lt k (length claim.targets) && is_late_anyhow plan claim sites (target_at claim.targets k)) ≡ true
+    → (nat_lt k (length claim.targets) && is_late_anyhow plan claim sites (target_at claim.targets k)) ≡ true
     → (placement : List ℕ) → Completes placement sites → IsNotBelow claim.wanted plan claim.floor placement
 commit_not_below used plan is_plan claim home home_made own sites k is =
-    let outer = and_parts (is_some plan.tick && nat_lt k (length claim.targets)) (is_late_anyhow plan claim sites (target_at claim.targets k)) is in
-    let inner = and_parts (is_some plan.tick) (nat_lt k (length claim.targets)) outer.0 in
-    let tick = tick_of_plan plan.tick inner.0 in
+    let both = and_parts (nat_lt k (length claim.targets)) (is_late_anyhow plan claim sites (target_at claim.targets k)) is in
     let target : Target = target_at claim.targets k in
-    late_not_below used claim.wanted plan is_plan claim.scenario home home_made claim.floor sites tick.0 tick.1 target
-    (k, subst (λ (ts : List Target). k < length ts) own (ltb-true k (length claim.targets) inner.1), ap (λ (ts : List Target). target_at ts k) (sym own))
+    late_not_below used claim.wanted plan is_plan claim.scenario home home_made claim.floor sites target
+    (k, subst (λ (ts : List Target). k < length ts) own (ltb-true k (length claim.targets) both.0), ap (λ (ts : List Target). target_at ts k) (sym own))
     (at_most_of (record { latency = commit_known plan claim.scenario sites target.message target.group; limit = limit_of target })
-    (excess_at claim.floor (total_known plan claim.scenario sites)) (not_less _ outer.1))
+    (excess_at claim.floor (total_known plan claim.scenario sites)) (not_less _ both.1))

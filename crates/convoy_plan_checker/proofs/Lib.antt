@@ -6,3 +6,4 @@ pub mod Covering
 pub mod Delays
 pub mod Valid
 pub mod Stepping
+pub mod Parting

@@ -1,6 +1,6 @@
 -- What `check --plan` answers: the text is that of a plan, and below it that of a certificate of the plan.
-use Rattle.std.specs.Prelude.{◌≡◌, ◌⊎◌, ℕ, List, [], ◌∷◌, ◌++◌, length, take, codes, Ok, Err, IsTrue}
-use Rattle.std.specs.Str.{bytes_eq}
+use Rattle.std.specs.Prelude.{◌≡◌, ◌⊎◌, ℕ, ◌-◌, ◌<◌, ◌==◌, nat_eq, Bool, ◌&&◌, List, [], ◌∷◌, ◌++◌, length, take, drop, slice_index_or, codes, Ok, Err, IsTrue, IsFalse}
+use Rattle.std.specs.List.{starts_with}
 use Rattle.convoy_toml.specs.declared.asked.Asked.{Asked}
 use Rattle.convoy_plans.specs.Plans.{Plan}
 use Rattle.convoy_plans.specs.Reading.{plan_of_text}
@@ -18,19 +18,34 @@ use Rattle.convoy_plan_checker.specs.PlanCheckLaws.{IsBestChoice}
 use Rattle.convoy_plan_checker.specs.PlanValidity.{IsValidPlan}
 use Rattle.convoy_plan_checker.specs.RefusalLines.{row_of_refusal}
 
+-- PARTS
 -- the first line of certificates of plans
 abbrev pub first_line : List ℕ
 first_line = codes "convoy plan 1" ++ 10 ∷ []
 
--- what stands below a plan begins with that line, or is nothing
-abbrev pub IsHeaded : List ℕ → Type 0
-IsHeaded below = (length below ≡ 0) ⊎ IsTrue (bytes_eq (take (length first_line) below) first_line)
+-- a line begins behind this text: it ends one, or is empty
+abbrev pub ends_line : List ℕ → Bool
+ends_line above = slice_index_or above (length above - 1) 10 == 10
 
+-- the text begins with that first line
+abbrev pub is_headed : List ℕ → Bool
+is_headed below = starts_with nat_eq below first_line
+
+-- a certificate begins at that place of a text: a line begins there, and is that first line
+abbrev pub begins_at : List ℕ → ℕ → Bool
+begins_at text place = ends_line (take place text) && is_headed (drop place text)
+
+-- The text is parted at the first place where a certificate begins, or else at its end.
+pub record IsParted (text above below : List ℕ) : Type 0 where
+  pub parts : text ≡ above ++ below
+  pub first : (place : ℕ) → place < length above → IsFalse (begins_at text place)
+  pub begins : (length below ≡ 0) ⊎ IsTrue (begins_at text (length above))
+
+-- ANSWERS
 -- The text has the text of that plan above, and the other one below.
 pub record IsBelow (asked : Asked) (text : List ℕ) (plan : Plan) (below : List ℕ) : Type 0 where
   pub above : List ℕ
-  pub parts : text ≡ above ++ below
-  pub headed : IsHeaded below
+  pub parted : IsParted text above below
   pub read : plan_of_text asked above ≡ Ok plan
 
 -- what is written for a certificate that is accepted
@@ -60,8 +75,7 @@ pub record IsPlanDenied (asked : Asked) (text : List ℕ) (end : Done) (out : Li
 pub record IsFaultyAbove (asked : Asked) (text : List ℕ) (fault : Fault) : Type 0 where
   pub above : List ℕ
   pub below : List ℕ
-  pub parts : text ≡ above ++ below
-  pub headed : IsHeaded below
+  pub parted : IsParted text above below
   pub faulty : IsFaultyPlan asked above fault
 
 -- what `check --plan` may answer

@@ -1,5 +1,5 @@
 -- Trees over placements, which show that no choice of a plan is below a floor.
-use Rattle.std.specs.Prelude.{ℕ, ◌+◌, nat_lt, Bool, false, IsTrue, ◌&&◌, if◌then◌else◌, List, [], ◌∷◌, ◌++◌, length, Option, Some, None, is_none, is_some, Result, Ok, Err}
+use Rattle.std.specs.Prelude.{ℕ, ◌+◌, nat_lt, Bool, false, IsTrue, ◌&&◌, if◌then◌else◌, List, [], ◌∷◌, ◌++◌, length, Option, Some, None, is_none, Result, Ok, Err}
 use Rattle.std.specs.Option.{option_or}
 use Rattle.convoy_draft.specs.declared.fault.ScenarioFault.{ScenarioFault}
 use Rattle.convoy_scenario.specs.Scenario.{Scenario}
@@ -54,7 +54,7 @@ abbrev pub is_right : Plan → Claim → Branch → Sites → Bool
 is_right plan claim (Split g) sites = is_left sites g
 is_right plan claim (Apart g h) sites = is_apart plan g h && is_one_site (site_known sites g) (site_known sites h)
 is_right plan claim (Commit k) sites =
-    is_some plan.tick && nat_lt k (length claim.targets) && is_late_anyhow plan claim sites (target_at claim.targets k)
+    nat_lt k (length claim.targets) && is_late_anyhow plan claim sites (target_at claim.targets k)
 is_right plan claim NoScenario sites = is_placed sites && is_none (scenario_over plan sites)
 is_right plan claim (Late witnesses) sites = is_placed sites && is_late_made plan claim witnesses.items (scenario_over plan sites)
 

@@ -11,8 +11,8 @@ use convoy_toml::Asked;
 use std::alloc::Global;
 
 /// Checks the certificate of a plan that stands below the plan in a text, for the targets that are wanted
-/// (docs/FORMATS.md, "Certificates of plans"): what it begins with is the first line of its form. What is written is
-/// `accepted`, or the line of the refusal, which ends as `Done::PlanRefused`.
+/// (docs/FORMATS.md, "Certificates of plans"): it begins at the first line of the text that is the first one of its form. What
+/// is written is `accepted`, or the line of the refusal, which ends as `Done::PlanRefused`.
 ///
 /// Faults are those of [`read_plan`], of what stands above, and `Fault::Memory`.
 pub fn plan_check_answer(
@@ -52,38 +52,44 @@ fn written(done: Done, text: Vec<u8>) -> Answer
     }
 }
 
-ghost use Rattle.std.specs.Prelude.{◌++◌, IsTrue, take};
-ghost use Rattle.std.specs.Str.{bytes_eq};
-ghost use Rattle.convoy_plan_checker.specs.PlanCheckAnswers.{IsHeaded, first_line};
+ghost use Rattle.std.specs.Prelude.{◌≤◌};
+ghost use Rattle.convoy_plan_checker.specs.PlanCheckAnswers.{IsParted, begins_at, ends_line, is_headed};
 
 /// The first line of certificates of plans.
 const FIRST_LINE: &[u8] = b"convoy plan 1\n";
 
-/// What stands above the first line that is that one, and what stands from there on.
+/// What stands above the first place where a certificate begins, and what stands from there on: nothing if none begins.
+#[tactic(auto, using(crate::proofs::Parting::none_up_to))]
 fn parts_of(text: &[u8]) -> (&[u8], &[u8])
-    ensures parts { text.now ≡ result.0.now ++ result.1.now }
-    ensures headed { IsHeaded result.1.now }
+    ensures { IsParted text.now result.0.now result.1.now }
 {
     for place in 0..text.len() {
-        let (above, below) = text.split_at(place);
-        if ends_line(above) && begins_certificate(below) {
-            return (above, below);
+        if begins_at(text, place) {
+            return text.split_at(place);
         }
     }
     text.split_at(text.len())
 }
 
-/// Whether a line begins after this text.
-fn ends_line(above: &[u8]) -> bool {
+/// Whether a certificate begins at that place of a text.
+fn begins_at(text: &[u8], place: usize) -> bool
+    requires { place ≤ length text.now }
+    ensures { result ≡ begins_at text.now place }
+{
+    let (above, below) = text.split_at(place);
+    ends_line(above) && is_headed(below)
+}
+
+/// Whether a line begins behind this text.
+fn ends_line(above: &[u8]) -> bool
+    ensures { result ≡ ends_line above.now }
+{
     matches!(above.last(), None | Some(b'\n'))
 }
 
 /// Whether the text begins with the first line of certificates of plans.
-fn begins_certificate(text: &[u8]) -> bool
-    ensures { IsTrue result → IsTrue (bytes_eq (take (length first_line) text.now) first_line) }
+fn is_headed(below: &[u8]) -> bool
+    ensures { result ≡ is_headed below.now }
 {
-    match text.split_at_checked(FIRST_LINE.len()) {
-        Some((line, _)) => line == FIRST_LINE,
-        None => false,
-    }
+    below.starts_with(FIRST_LINE)
 }

@@ -33,8 +33,7 @@ pub enum PlanRefused {
     /// The two groups of that leaf are not to be apart, or are not known to be at one site.
     #[error("node {0} is a leaf of groups that are not at one site, or may be")]
     Apart(usize),
-    /// The commits of the target of that leaf are not so late as far as sites are known, or there is no such target, or the
-    /// plan does not say how long a tick lasts.
+    /// The commits of the target of that leaf are not so late as far as sites are known, or there is no such target.
     #[error("node {0} is a leaf of commits that are not late")]
     Commit(usize),
     /// Some group has no site at that leaf, or there is a scenario.

@@ -112,13 +112,12 @@ fn is_one_site(site: Option<usize>, other: Option<usize>) -> bool
     }
 }
 
-/// Whether the target at a place is too late by its commit alone. Nothing is known of plans whose ticks have no length.
+/// Whether the target at a place is too late by its commit alone.
 fn is_commit_late(plan: &Plan, claim: &Claim, place: usize, sites: &GroupSites) -> bool
     requires { All (MayBeTarget claim.now.scenario) claim.now.targets }
     ensures { result ≡ is_right plan.now claim.now (Branch.Commit place) sites.now }
 {
-    plan.tick().is_some()
-        && place < claim.targets.len()
+    place < claim.targets.len()
         && is_late_anyhow(plan, claim, sites.as_slice(), claim.targets[place])
 }
 

@@ -4,8 +4,9 @@ ghost use Rattle.convoy_plan_proof.specs.PlanProofs.{PlanProofSays};
 
 use super::proving::{PlanProof, prove_plan};
 use convoy_best_order::Wanted;
+use convoy_best_plan::PlanWatch;
 use convoy_branch::Options;
-use convoy_commands::{Answer, Done, Fault, Watch};
+use convoy_commands::{Answer, Done, Fault};
 use convoy_plans::{PlanFault, read_plan};
 use convoy_toml::Asked;
 use std::alloc::Global;
@@ -17,7 +18,7 @@ use std::thread::Threads;
 ///
 /// Faults are those of [`read_plan`], `Fault::Plan(PlanFault::NoPlacement)` where no placement has a scenario, and
 /// `Fault::Memory`.
-pub fn plan_proof_answer<R: Threads + Wait + Sync, W: Watch + Sync>(
+pub fn plan_proof_answer<R: Threads + Wait + Sync, W: PlanWatch + Sync>(
     rt: &R,
     alloc: Global,
     wanted: Wanted,

@@ -105,7 +105,8 @@ fn alone(
     }
 }
 
-/// A schedule for each of the reasons why no order of the groups is better than the best one.
+/// A schedule for each of the reasons why no order of the groups is better than the best one; nothing where there is no reason,
+/// or no schedule for one.
 fn by_best_order<R: Threads + Wait + Sync, W: Watch + Sync>(
     rt: &R,
     alloc: Global,
@@ -119,6 +120,9 @@ fn by_best_order<R: Threads + Wait + Sync, W: Watch + Sync>(
     requires lawful { All (MayBeTarget scenario.now) targets.now }
 {
     let best = best_order(rt, alloc, scenario, targets, claim.options, watches)?;
+    if best.reasons.is_empty() {
+        return Ok(None);
+    }
     let groups = groups_of(alloc, &best.reasons)?;
     let mut witnesses = Vec::new(alloc);
     for reason in &best.reasons {

@@ -3,10 +3,8 @@
 use super::claim::Claim;
 use convoy_best_plan::{commit_known, is_past_by, total_known};
 
-/// The place of a target that is so late where groups are at these sites, if there is one. Nothing is known of plans whose
-/// ticks have no length.
+/// The place of a target that is so late where groups are at these sites, if there is one.
 pub(crate) fn late_target(claim: &Claim, sites: &[Option<usize>]) -> Option<usize> {
-    claim.plan.tick()?;
     let total = total_known(claim.plan, &claim.planned.scenario, sites);
     for place in 0..claim.planned.targets.len() {
         if is_late(claim, sites, total, place) {

@@ -6,9 +6,8 @@ use super::claim::Claim;
 use super::shown::certificates_of;
 use super::tree::{Tree, tree_of};
 use convoy_best_order::Wanted;
-use convoy_best_plan::{Planned, best_plan};
+use convoy_best_plan::{PlanWatch, Planned, best_plan};
 use convoy_branch::Options;
-use convoy_commands::Watch;
 use convoy_plan_certificate::{PlanCertificate, PlanTextFault, plan_certificate_text};
 use convoy_plan_checker::{PlanRefusal, PlanRefused, check_plan_text};
 use convoy_plans::Plan;
@@ -35,7 +34,7 @@ pub enum PlanProof {
 /// choice is better (docs/FORMATS.md, "Certificates of plans"). The text is one that the checker accepts, whatever made it; there
 /// is none where a search does not end within the options, or where the text would be too long. Fails where memory runs out, and
 /// else never.
-pub fn prove_plan<R: Threads + Wait + Sync, W: Watch + Sync>(
+pub fn prove_plan<R: Threads + Wait + Sync, W: PlanWatch + Sync>(
     rt: &R,
     alloc: Global,
     plan: &Plan,
@@ -53,7 +52,7 @@ pub fn prove_plan<R: Threads + Wait + Sync, W: Watch + Sync>(
 }
 
 /// The same of a choice that was found.
-fn prove_choice<R: Threads + Wait + Sync, W: Watch + Sync>(
+fn prove_choice<R: Threads + Wait + Sync, W: PlanWatch + Sync>(
     rt: &R,
     alloc: Global,
     plan: &Plan,

@@ -6,7 +6,10 @@ ghost use Rattle.convoy_best_plan.specs.Standings.{left_of};
 use super::claim::Claim;
 use super::excluding::witnesses_at;
 use super::late::late_target;
-use convoy_best_plan::{next_group, placement_of, scenario_if_made, site_known, with_site};
+use convoy_best_plan::{
+    PlanWatch, Stage, next_group, placement_of, placements_below, scenario_if_made, site_known,
+    with_site,
+};
 use convoy_commands::Watch;
 use convoy_plan_certificate::Branch;
 use std::alloc::{AllocError, Global};
@@ -27,8 +30,23 @@ pub(crate) enum Tree {
     TooLarge,
 }
 
-/// The tree over all placements.
-pub(crate) fn tree_of<R: Threads + Wait + Sync, W: Watch + Sync>(
+/// The tree over all placements. The first who watches is told of each placement as it is passed.
+pub(crate) fn tree_of<R: Threads + Wait + Sync, W: PlanWatch + Sync>(
+    rt: &R,
+    alloc: Global,
+    claim: &Claim,
+    watches: &[W],
+) -> Result<Tree, AllocError>
+    requires watched { 0 < length watches.now }
+{
+    watches[0].begins_placing(Stage::Certificate, placements_below(claim.plan, &[]));
+    let tree = grown(rt, alloc, claim, watches);
+    watches[0].ends_placing();
+    tree
+}
+
+/// The tree of [`tree_of`].
+fn grown<R: Threads + Wait + Sync, W: PlanWatch + Sync>(
     rt: &R,
     alloc: Global,
     claim: &Claim,
@@ -48,8 +66,9 @@ pub(crate) fn tree_of<R: Threads + Wait + Sync, W: Watch + Sync>(
         let Some(node) = node_at(rt, alloc, claim, &sites, &mut served, watches)? else {
             return Ok(Tree::Open);
         };
-        if let Branch::Split(group) = &node {
-            push_halves(alloc, claim, &sites, *group, &mut left)?;
+        match &node {
+            Branch::Split(group) => push_halves(alloc, claim, &sites, *group, &mut left)?,
+            _ => watches[0].passes(placements_below(claim.plan, &sites)),
         }
         nodes.push(node)?;
     }

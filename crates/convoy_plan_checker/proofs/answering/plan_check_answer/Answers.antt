@@ -1,6 +1,6 @@
-use Rattle.std.proofs.Common.{ℕ, List, ◌++◌, inl, refl, ap, subst, ◌∙◌}
+use Rattle.std.proofs.Common.{inl, refl, subst}
 use Rattle.convoy_best_plan.proofs.ReadPlans.{read_by}
-use Rattle.convoy_plan_checker.specs.PlanCheckAnswers.{IsHeaded}
+use Rattle.convoy_plan_checker.specs.PlanCheckAnswers.{IsParted}
 use Rattle.convoy_plan_checker.proofs.answering.plan_check_answer.Goals as goal
 
 pub returns-in-Ok : goal.returns-in-Ok
@@ -12,8 +12,7 @@ returns-in-Ok c =
       certificate = c.in-Ok.field-0;
       stands = record {
         above = c.parts_of.result.0.now;
-        parts = c.parts_of.ensures.parts ∙ ap (λ (below : List ℕ). c.parts_of.result.0.now ++ below) c.in-Ok.ensures.text;
-        headed = subst IsHeaded c.in-Ok.ensures.text c.parts_of.ensures.headed;
+        parted = subst (IsParted c.args.text.now c.parts_of.result.0.now) c.in-Ok.ensures.text c.parts_of.ensures;
         read = read_by _ _ _ c.in_ok-plan.ensures.value;
       };
       valid = c.in-Ok.ensures.valid;
