@@ -14,14 +14,18 @@ ghost use Rattle.convoy.specs.Verdicts.{IsWantedRead, Obeys, Performs, Tells, do
 mod ending;
 mod hinting;
 mod kept;
+mod kept_measure;
 mod kind_hints;
 mod obeying;
+mod pace;
+mod placing;
 mod progress;
 mod sweep_hints;
 mod table_hints;
 mod trace_hints;
 
 use convoy_arguments::{Input, Inputs, MOST_READS, Verdict, judge, judge_bytes};
+use convoy_best_plan::PlanWatch;
 use convoy_commands::{Done, Fault, Options, Watch, fault_line};
 use convoy_scenario::Scenario;
 use convoy_streams::{DeviceFailed, Sink, Source, StreamSink, hold_closed, write_all};
@@ -54,7 +58,7 @@ fn main(rt: HostRuntime) -> ExitCode {
     };
     let screen = screen_for(&verdict, rt.stderr().is_terminal());
     let together = Together::new();
-    let alone = [Progress::new(&rt, alloc, rt.stderr(), screen, None)];
+    let alone = [Progress::new(&rt, alloc, rt.stderr(), screen, &together, true)];
     let several = several_for(&rt, alloc, rt.stderr(), screen, &together, verdict.jobs());
     let watches = watches_of(&alone, &several);
     let obeyed = open_and_obey(&rt, alloc, rt.stdin(), &verdict, &mut sink, watches);
@@ -109,7 +113,7 @@ fn words<R: Env + AllocGlobal>(rt: &R) -> io::Result<Vec<String>> {
 
 /// Does what the command line asks for, and answers how that ended. The other source is that of the scenario
 /// which a certificate is to be of.
-fn obey<R: Threads + Wait + Sync, S: Source, K: Sink, W: Watch + Sync>(
+fn obey<R: Threads + Wait + Sync, S: Source, K: Sink, W: PlanWatch + Sync>(
     rt: &R,
     alloc: Global,
     verdict: &Verdict,
@@ -146,7 +150,7 @@ fn obey<R: Threads + Wait + Sync, S: Source, K: Sink, W: Watch + Sync>(
 /// Does a task, for the scenario that is wanted, if one is: that is read first. The buffer of a batch lies on the stack,
 /// and no task is to have it there.
 #[inline(never)]
-fn perform<R: Threads + Wait + Sync, S: Source, K: Sink, W: Watch + Sync>(
+fn perform<R: Threads + Wait + Sync, S: Source, K: Sink, W: PlanWatch + Sync>(
     rt: &R,
     alloc: Global,
     task: &Task,
@@ -184,7 +188,7 @@ fn read_wanted<S: Source>(
 }
 
 /// Does a task for that scenario.
-fn run_for<R: Threads + Wait + Sync, S: Source, K: Sink, W: Watch + Sync>(
+fn run_for<R: Threads + Wait + Sync, S: Source, K: Sink, W: PlanWatch + Sync>(
     rt: &R,
     alloc: Global,
     task: &Task,

@@ -7,7 +7,8 @@ ghost use Rattle.convoy.specs.Obeying.{HasObeyed};
 use super::ending::End;
 use super::obey;
 use convoy_arguments::Verdict;
-use convoy_commands::{Fault, Watch};
+use convoy_best_plan::PlanWatch;
+use convoy_commands::Fault;
 use convoy_streams::{InputSource, Opener, Sink, source_of};
 use std::alloc::Global;
 use std::io::Stdin;
@@ -25,7 +26,7 @@ pub struct Obeyed<F> {
 }
 
 /// Opens the inputs that the command line names, each by its name, and does what it asks for.
-pub fn open_and_obey<R: Opener + Threads + Wait + Sync, K: Sink, W: Watch + Sync>(
+pub fn open_and_obey<R: Opener + Threads + Wait + Sync, K: Sink, W: PlanWatch + Sync>(
     rt: &R,
     alloc: Global,
     stdin: Stdin,

@@ -1,16 +1,17 @@
 //! How far a long search has come, told on standard error, and when its time is over.
 
+use super::kept_measure::KeptMeasure;
+use super::pace::Pace;
+use super::placing::Placing;
 use convoy_arguments::Verdict;
-use convoy_commands::{Bounds, Duration, Gate, TimeUnit, Watch};
+use convoy_best_plan::{PlanWatch, Stage};
+use convoy_commands::{Bounds, Gate, Watch};
 use convoy_tasks::Task;
 use convoy_times::Measure;
 use std::alloc::{AllocError, Global};
 use std::io::{Stderr, Write};
 use std::sync::atomic::{AtomicBool, AtomicU32, AtomicU64, Ordering};
 use std::time::Clock;
-
-/// How many milliseconds pass before a search is told of, and then from one line to the next.
-const PAUSE: u64 = 1_000;
 
 /// How many branches a worker takes up between two looks at the clock, where they are quick, less 1.
 const FEW: u64 = 1_023;
@@ -48,13 +49,13 @@ pub fn screen_for(verdict: &Verdict, is_terminal: bool) -> Screen {
     }
 }
 
-/// How far a table has come of which several rows are made at a time: what the progresses of their searches share.
+/// What the progresses of all searches share: how far the search over placements has come in which they are, and the table of
+/// which they make the rows, where several are made at a time.
 #[derive(Drop)]
 pub struct Together {
-    /// When the first search began, in milliseconds of the clock, or 0.
-    begun: AtomicU64,
-    /// When the next line is due.
-    due: AtomicU64,
+    placing: Placing,
+    /// It began with the first search.
+    pace: Pace,
     /// How many searches have ended.
     ended: AtomicU64,
     /// Whether a line was told.
@@ -65,53 +66,32 @@ impl Together {
     /// No search has begun.
     pub fn new() -> Together {
         Together {
-            begun: AtomicU64::new(0),
-            due: AtomicU64::new(0),
+            placing: Placing::new(),
+            pace: Pace::new(),
             ended: AtomicU64::new(0),
             told: AtomicBool::new(false),
         }
     }
-
-    /// A search begins.
-    fn begin(&self, now: u64) {
-        let first = self
-            .begun
-            .compare_exchange(0, now, Ordering::SeqCst, Ordering::SeqCst);
-        if first.is_ok() {
-            self.due.store(now.saturating_add(PAUSE), Ordering::SeqCst);
-        }
-    }
-
-    /// Whether a line is due, which is then told by the one that asked.
-    fn is_due(&self, now: u64) -> bool {
-        let due = self.due.load(Ordering::SeqCst);
-        let next = now.saturating_add(PAUSE);
-        now >= due
-            && self
-                .due
-                .compare_exchange(due, next, Ordering::SeqCst, Ordering::SeqCst)
-                .is_ok()
-    }
 }
 
 /// Tells on standard error how far a search has come, once a second, and tells the search when its time is over. Where
-/// several rows of a table are made at a time, how many searches have ended is told in its place.
+/// several rows of a table are made at a time, how many searches have ended is told in its place; and while placements are
+/// searched, how many of them are passed.
 #[derive(Drop)]
 pub struct Progress<'a, R> {
     rt: &'a R,
     alloc: Global,
     stderr: Stderr,
     screen: Screen,
-    /// What it shares with others, where several rows are made at a time.
-    together: Option<&'a Together>,
+    /// What it shares with others.
+    together: &'a Together,
+    /// Whether one row is made at a time.
+    is_alone: bool,
     /// Whether the search goes by stamp bounds.
     by_stamps: AtomicBool,
     /// Whether it goes by leads.
     by_leads: AtomicBool,
-    /// When the search began, in milliseconds of the clock.
-    begun: AtomicU64,
-    /// When the next line is due.
-    due: AtomicU64,
+    pace: Pace,
     /// When the time of the search is over, or the greatest number where none stops it.
     deadline: AtomicU64,
     /// Whether the search was told that its time is over.
@@ -121,10 +101,7 @@ pub struct Progress<'a, R> {
     /// How many branches were taken up, as far as they are counted.
     spent: AtomicU64,
     limit: AtomicU64,
-    /// How many nanoseconds a tick lasts, or 0 where that is not known.
-    tick: AtomicU64,
-    /// How many nanoseconds the unit has in which times are told, or 0.
-    unit: AtomicU64,
+    measure: KeptMeasure,
     least: AtomicU32,
     /// The greatest number where no bound is known.
     most: AtomicU32,
@@ -133,13 +110,14 @@ pub struct Progress<'a, R> {
 }
 
 impl<'a, R: Clock> Progress<'a, R> {
-    /// Progress of a search on that screen, together with others, if there are any.
+    /// Progress of a search on that screen, together with others, unless it is alone.
     pub fn new(
         rt: &'a R,
         alloc: Global,
         stderr: Stderr,
         screen: Screen,
-        together: Option<&'a Together>,
+        together: &'a Together,
+        is_alone: bool,
     ) -> Progress<'a, R> {
         Progress {
             rt,
@@ -147,17 +125,16 @@ impl<'a, R: Clock> Progress<'a, R> {
             stderr,
             screen,
             together,
+            is_alone,
             by_stamps: AtomicBool::new(false),
             by_leads: AtomicBool::new(false),
-            begun: AtomicU64::new(0),
-            due: AtomicU64::new(0),
+            pace: Pace::new(),
             deadline: AtomicU64::new(u64::MAX),
             over: AtomicBool::new(false),
             stopped: AtomicBool::new(false),
             spent: AtomicU64::new(0),
             limit: AtomicU64::new(0),
-            tick: AtomicU64::new(0),
-            unit: AtomicU64::new(0),
+            measure: KeptMeasure::new(),
             least: AtomicU32::new(0),
             most: AtomicU32::new(0),
             told: AtomicBool::new(false),
@@ -179,9 +156,7 @@ impl<'a, R: Clock> Progress<'a, R> {
 
     /// Begins to count anew, for a search by those bounds.
     fn start(&self, bounds: Bounds, limit: u64, least: u32, most: u32) {
-        let now = self.now();
-        self.begun.store(now, Ordering::Relaxed);
-        self.due.store(now.saturating_add(PAUSE), Ordering::Relaxed);
+        self.pace.begin(self.now());
         self.by_stamps
             .store(bounds == Bounds::Stamp, Ordering::Relaxed);
         self.by_leads
@@ -215,58 +190,70 @@ impl<'a, R: Clock> Progress<'a, R> {
     /// Writes a line where one is due.
     fn tell(&self, spent: u64) {
         let now = self.now();
-        if let Some(together) = self.together {
-            self.tell_together(together, now);
+        if self.together.placing.is_under_way() {
+            self.tell_placing(now);
             return;
         }
-        if now < self.due.load(Ordering::Relaxed) {
+        if !self.is_alone {
+            self.tell_together(now);
             return;
         }
-        self.due.store(now.saturating_add(PAUSE), Ordering::Relaxed);
-        if let Ok(line) = self.line(spent, now) {
+        if self.pace.is_due(now) {
             self.told.store(true, Ordering::Relaxed);
-            let _ = (&self.stderr).write_all(line.as_bytes());
+            self.write(self.line(spent, now));
         }
     }
 
     /// Writes a line on all rows where one is due.
-    fn tell_together(&self, together: &Together, now: u64) {
-        if !together.is_due(now) {
-            return;
+    fn tell_together(&self, now: u64) {
+        if self.together.pace.is_due(now) {
+            self.together.told.store(true, Ordering::SeqCst);
+            self.write(self.line_together(now));
         }
-        if let Ok(line) = self.line_together(together, now) {
-            together.told.store(true, Ordering::SeqCst);
-            let _ = (&self.stderr).write_all(line.as_bytes());
+    }
+
+    /// Writes a line on placements where one is due.
+    fn tell_placing(&self, now: u64) {
+        if self.together.placing.is_due(now) {
+            self.write(self.together.placing.line(self.alloc, now));
+        }
+    }
+
+    /// Writes a line, if there is memory for it.
+    fn write(&self, line: Result<String, AllocError>) {
+        if let Ok(line) = line {
+            let written = match self.screen {
+                Screen::Terminal => format!(in self.alloc; "\r{line}\x1b[K"),
+                Screen::Stream | Screen::Off => format!(in self.alloc; "{line}\n"),
+            };
+            if let Ok(text) = written {
+                let _ = (&self.stderr).write_all(text.as_bytes());
+            }
         }
     }
 
     /// What is told of all rows at that time.
-    fn line_together(&self, together: &Together, now: u64) -> Result<String, AllocError> {
-        let ended = together.ended.load(Ordering::SeqCst);
-        let seconds = now.saturating_sub(together.begun.load(Ordering::SeqCst)) / 1_000;
-        let (start, end) = self.around();
+    fn line_together(&self, now: u64) -> Result<String, AllocError> {
+        let ended = self.together.ended.load(Ordering::SeqCst);
+        let seconds = self.together.pace.passed(now) / 1_000;
         let searches = if ended == 1 {
             "search has"
         } else {
             "searches have"
         };
-        format!(in self.alloc; "{start}{ended} {searches} ended in {seconds} s{end}")
-    }
-
-    /// What stands before a line and after it.
-    fn around(&self) -> (&'static str, &'static str) {
-        match self.screen {
-            Screen::Terminal => ("\r", "\x1b[K"),
-            Screen::Stream | Screen::Off => ("", "\n"),
-        }
+        format!(in self.alloc; "{ended} {searches} ended in {seconds} s")
     }
 
     /// Ends the line that was told of all rows, if one was, where the next one would stand in its place.
     pub fn finish(&self) {
-        let Some(together) = self.together else {
-            return;
-        };
-        if self.screen == Screen::Terminal && together.told.load(Ordering::SeqCst) {
+        if self.together.told.load(Ordering::SeqCst) {
+            self.end_line();
+        }
+    }
+
+    /// Ends the last line, where the next one would stand in its place.
+    fn end_line(&self) {
+        if self.screen == Screen::Terminal {
             let _ = (&self.stderr).write_all(b"\n");
         }
     }
@@ -276,47 +263,21 @@ impl<'a, R: Clock> Progress<'a, R> {
         let limit = self.limit.load(Ordering::Relaxed);
         let least = self.least.load(Ordering::Relaxed);
         let most = self.most.load(Ordering::Relaxed);
-        let passed = now
-            .saturating_sub(self.begun.load(Ordering::Relaxed))
-            .max(1);
-        let rate = spent.saturating_mul(1_000) / passed;
+        let rate = spent.saturating_mul(1_000) / self.pace.passed(now).max(1);
         let spent = spent.min(limit);
-        let (start, end) = self.around();
         let tickets = if limit == 1 { "ticket" } else { "tickets" };
         let way = self.way();
         if most == u32::MAX {
             let ticks = if least == 1 { "tick" } else { "ticks" };
-            let lasting = self.lasting("", least)?;
+            let lasting = self.measure.lasting(self.alloc, "", least)?;
             return format!(in self.alloc;
-                "{start}{spent} of {limit} {tickets} {way}, {rate} a second; at least {least} {ticks}{lasting}{end}"
+                "{spent} of {limit} {tickets} {way}, {rate} a second; at least {least} {ticks}{lasting}"
             );
         }
-        let lasting = self.lasting("at most ", most)?;
+        let lasting = self.measure.lasting(self.alloc, "at most ", most)?;
         format!(in self.alloc;
-            "{start}{spent} of {limit} {tickets} {way}, {rate} a second; between {least} and {most} ticks{lasting}{end}"
+            "{spent} of {limit} {tickets} {way}, {rate} a second; between {least} and {most} ticks{lasting}"
         )
-    }
-
-    /// What is told of so many ticks as a time, in brackets; nothing where the length of a tick is not known.
-    fn lasting(&self, word: &str, ticks: u32) -> Result<String, AllocError> {
-        match self.measure() {
-            Some(known) => self.in_brackets(word, known, ticks),
-            None => Ok(String::new(self.alloc)),
-        }
-    }
-
-    /// So many ticks as a time, after a word, in brackets.
-    fn in_brackets(&self, word: &str, measure: Measure, ticks: u32) -> Result<String, AllocError> {
-        let unit = measure.unit.word();
-        let time = measure.text(self.alloc, ticks)?;
-        format!(in self.alloc; " ({word}{time} {unit})")
-    }
-
-    /// How times are told; None where the length of a tick is not known.
-    fn measure(&self) -> Option<Measure> {
-        let unit = unit_of(self.unit.load(Ordering::Relaxed))?;
-        let tick = Duration::from_nanoseconds(self.tick.load(Ordering::Relaxed))?;
-        Some(Measure { tick, unit })
     }
 }
 
@@ -334,26 +295,12 @@ pub fn several_for<'a, R: Clock>(
         return several;
     }
     for _ in 0..jobs {
-        let progress = Progress::new(rt, alloc, stderr, screen, Some(together));
+        let progress = Progress::new(rt, alloc, stderr, screen, together, false);
         if several.push(progress).is_err() {
             break;
         }
     }
     several
-}
-
-/// The unit that has so many nanoseconds, if one has.
-fn unit_of(nanoseconds: u64) -> Option<TimeUnit> {
-    let units = [
-        TimeUnit::Seconds,
-        TimeUnit::Milliseconds,
-        TimeUnit::Microseconds,
-        TimeUnit::Nanoseconds,
-    ];
-    units
-        .iter()
-        .find(|unit| unit.nanoseconds() == nanoseconds)
-        .copied()
 }
 
 impl<'a, R: Clock> Gate for Progress<'a, R> {
@@ -402,16 +349,8 @@ impl<'a, R: Clock> Watch for Progress<'a, R> {
         least: u32,
         most: Option<u32>,
     ) {
-        let (tick, unit) = match measure {
-            Some(measure) => (measure.tick.nanoseconds(), measure.unit.nanoseconds()),
-            None => (0, 0),
-        };
-        self.tick.store(tick, Ordering::Relaxed);
-        self.unit.store(unit, Ordering::Relaxed);
-        self.told.store(false, Ordering::Relaxed);
-        if let Some(together) = self.together {
-            together.begin(self.now());
-        }
+        self.measure.keep(measure);
+        self.together.pace.begin_once(self.now());
         self.start(bounds, limit, least, most.unwrap_or(u32::MAX));
     }
 
@@ -419,11 +358,33 @@ impl<'a, R: Clock> Watch for Progress<'a, R> {
         if is_open && self.over.load(Ordering::Relaxed) {
             self.stopped.store(true, Ordering::Relaxed);
         }
-        if let Some(together) = self.together {
-            together.ended.fetch_add(1, Ordering::SeqCst);
+        self.together.ended.fetch_add(1, Ordering::SeqCst);
+        if self.told.swap(false, Ordering::Relaxed) {
+            self.end_line();
         }
-        if self.screen == Screen::Terminal && self.told.load(Ordering::Relaxed) {
-            let _ = (&self.stderr).write_all(b"\n");
+    }
+}
+
+impl<'a, R: Clock> PlanWatch for Progress<'a, R> {
+    fn begins_placing(&self, stage: Stage, placements: u64) {
+        self.together.placing.begin(self.now(), stage, placements);
+    }
+
+    fn passes(&self, placements: u64) {
+        self.together.placing.pass(placements);
+        if self.screen != Screen::Off {
+            self.tell_placing(self.now());
+        }
+    }
+
+    fn chooses(&self, measure: Option<Measure>, latency: u32, deadline: Option<u32>) {
+        self.together.placing.choose(measure, latency, deadline);
+    }
+
+    fn ends_placing(&self) {
+        if self.together.placing.end() {
+            self.end_line();
+            self.together.told.store(false, Ordering::SeqCst);
         }
     }
 }

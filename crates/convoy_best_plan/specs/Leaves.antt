@@ -29,7 +29,7 @@ most_known plan None to = 0
 most_known plan (Some a) None = 0
 most_known plan (Some a) (Some b) = most_between plan a b
 
--- the same from a sender, who is there, to a group; what a group sends to itself takes no time
+-- the same from a sender, who is there, to a group; what a group sends to itself takes no time, as it has no link to itself
 abbrev pub way_known : Plan → List (Option ℕ) → Sender → Origin → ℕ → ℕ
 way_known plan sites sender from g =
     if is_same_sender sender (senders.Group g) then 0 else most_known plan (origin_site sites from) (site_known sites g)

@@ -7,9 +7,10 @@ use super::planned::Planned;
 use super::planning::{best_plan, best_plans};
 use super::ranking::{all_as_told, ranking_text};
 use super::telling::plan_text;
+use super::watch::PlanWatch;
 use convoy_best_order::{Wanted, are_judged, has_beyond, has_open, listed, listing_text};
 use convoy_branch::Options;
-use convoy_commands::{Answer, Done, Fault, Watch};
+use convoy_commands::{Answer, Done, Fault};
 use convoy_plans::{PlanFault, read_plan};
 use convoy_tables::Format;
 use convoy_times::Measure;
@@ -36,7 +37,7 @@ use std::thread::Threads;
 ///
 /// Faults are those of [`read_plan`], `Fault::Plan(PlanFault::NoPlacement)` where no placement has a scenario, and
 /// `Fault::Memory`.
-pub fn plan_answer<R: Threads + Wait + Sync, W: Watch + Sync>(
+pub fn plan_answer<R: Threads + Wait + Sync, W: PlanWatch + Sync>(
     rt: &R,
     alloc: Global,
     format: Format,
@@ -79,7 +80,7 @@ pub fn plan_answer<R: Threads + Wait + Sync, W: Watch + Sync>(
 }
 
 /// The best choice.
-fn best_answer<R: Threads + Wait + Sync, W: Watch + Sync>(
+fn best_answer<R: Threads + Wait + Sync, W: PlanWatch + Sync>(
     rt: &R,
     alloc: Global,
     format: Format,
@@ -106,7 +107,7 @@ fn best_answer<R: Threads + Wait + Sync, W: Watch + Sync>(
 }
 
 /// So many of the best choices.
-fn ranking_answer<R: Threads + Wait + Sync, W: Watch + Sync>(
+fn ranking_answer<R: Threads + Wait + Sync, W: PlanWatch + Sync>(
     rt: &R,
     alloc: Global,
     format: Format,
@@ -138,7 +139,7 @@ fn ranking_answer<R: Threads + Wait + Sync, W: Watch + Sync>(
 /// The scenario of the last of so many of the best choices of the plan of a text, with its groups in the best order, as a text
 /// that reads as it: of what [`plan_answer`] tells in a table. All its times are numbers of ticks, it gives the schedule of
 /// least delays, and of deadlines it says nothing, as no scenario does. It ends as `plan_answer` does, and has its faults.
-pub fn placing_answer<R: Threads + Wait + Sync, W: Watch + Sync>(
+pub fn placing_answer<R: Threads + Wait + Sync, W: PlanWatch + Sync>(
     rt: &R,
     alloc: Global,
     wanted: Wanted,

@@ -15,6 +15,8 @@ pub use targets::targets_by;
 pub use telling::{site_words, sites_line};
 pub use totals::total_of;
 pub use visiting::scenario_if_made;
+pub use watch::{PlanWatch, Stage};
+pub use watching::placements_below;
 
 mod answering;
 pub mod choice_laws;
@@ -38,3 +40,5 @@ mod telling;
 mod told;
 mod totals;
 mod visiting;
+mod watch;
+mod watching;

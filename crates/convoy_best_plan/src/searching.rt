@@ -9,6 +9,8 @@ use super::planned::Planned;
 use super::standing::Standing;
 use super::told::is_new;
 use super::visiting::visit;
+use super::watch::PlanWatch;
+use super::watching::{placements_below, tell_choice};
 use convoy_best_order::Wanted;
 use convoy_branch::Options;
 use convoy_commands::Watch;
@@ -18,8 +20,8 @@ use std::sync::Wait;
 use std::thread::Threads;
 
 /// Searches all placements that have these sites, but for those that are told already, where at most so many groups have no
-/// site yet. Fails where memory runs out, and else never.
-pub(crate) fn search_below<R: Threads + Wait + Sync, W: Watch + Sync>(
+/// site yet. The first who watches is told of each as it is passed. Fails where memory runs out, and else never.
+pub(crate) fn search_below<R: Threads + Wait + Sync, W: PlanWatch + Sync>(
     rt: &R,
     alloc: Global,
     plan: &Plan,
@@ -41,11 +43,12 @@ pub(crate) fn search_below<R: Threads + Wait + Sync, W: Watch + Sync>(
 {
     let cut = is_cut(plan, &standing.chosen, sites);
     if cut {
+        watches[0].passes(placements_below(plan, sites));
         return Ok(standing);
     }
     let group = match next_group(plan, sites) {
         Some(group) => group,
-        None => return visit_placed(
+        None => return pass_placed(
             rt, alloc, plan, wanted, told, sites, standing, options, watches,
         ),
     };
@@ -136,6 +139,34 @@ pub fn with_site(
     let mut more = Vec::from_slice(alloc, sites)?;
     more[group] = Some(site);
     Ok(more)
+}
+
+/// Looks at the placement that has these sites, where each group has one, unless it is told already; and tells who watches.
+fn pass_placed<R: Threads + Wait + Sync, W: PlanWatch + Sync>(
+    rt: &R,
+    alloc: Global,
+    plan: &Plan,
+    wanted: Wanted,
+    told: &[Planned],
+    sites: &[Option<usize>],
+    standing: Standing,
+    options: &Options,
+    watches: &[W],
+) -> Result<Standing, AllocError>
+    requires watched { 0 < length watches.now }
+    requires long { length sites.now ≡ length plan.now.written.groups }
+    requires all { left_of sites.now ≡ 0 }
+    requires standing { IsStanding options.now wanted plan.now told.now standing.chosen }
+    ensures standing { IfOk result (λ next. IsStanding options.now wanted plan.now told.now next.chosen) }
+    ensures fallen { IfOk result (λ next. HasFallen standing.chosen next.chosen) }
+    ensures passed { IfOk result (λ next. ArePassed wanted plan.now told.now next.chosen sites.now) }
+{
+    let next = visit_placed(
+        rt, alloc, plan, wanted, told, sites, standing, options, watches,
+    )?;
+    watches[0].passes(1);
+    tell_choice(plan, &next.chosen, options, &watches[0]);
+    Ok(next)
 }
 
 /// Looks at the placement that has these sites, where each group has one, unless it is told already.

@@ -14,11 +14,11 @@ use super::kinds::{answer_kinds, answer_worst_kind};
 use super::links::{answer_beside, answer_trace_ranges, answer_trace_table};
 use super::task::Task;
 use convoy_best_order::{listing_answer, order_answer};
-use convoy_best_plan::{placing_answer, plan_answer};
+use convoy_best_plan::{PlanWatch, placing_answer, plan_answer};
 use convoy_budget::budget_answer;
 use convoy_commands::{
-    Answer, Asking, Fault, LONGEST_CERTIFICATE, LONGEST_JOB, Watch, analyse_answer, ask,
-    ceiling_answer, explain_with_ceiling, first_answer, latency_answer, ranges_answer, tell,
+    Answer, Asking, Fault, LONGEST_CERTIFICATE, LONGEST_JOB, analyse_answer, ask, ceiling_answer,
+    explain_with_ceiling, first_answer, latency_answer, ranges_answer, tell,
 };
 use convoy_plan_ceilings::{ceiling_placing_answer, plan_ceiling_answer};
 use convoy_plan_checker::plan_check_answer;
@@ -45,7 +45,7 @@ use std::thread::Threads;
 /// sweep; `Fault::Plan` where it is that of no plan, or of one that has no placement; `Fault::Kinds` where it is that of no
 /// kinds of messages; `Fault::Trace` where it is no trace of the scenario; `Fault::Schedule` and `Fault::Order` for a schedule that is none of it; `Fault::Reading` for a scenario of more than [`LONGEST_JOB`] bytes
 /// where a certificate may be longer; `Fault::TooManyJobs`; and `Fault::Memory`.
-pub fn answer<R: Threads + Wait + Sync, W: Watch + Sync>(
+pub fn answer<R: Threads + Wait + Sync, W: PlanWatch + Sync>(
     rt: &R,
     alloc: Global,
     task: &Task,

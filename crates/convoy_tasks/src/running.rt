@@ -8,7 +8,8 @@ ghost use Rattle.std.specs.Prelude.{◌<◌, None, length};
 use super::answering::{answer, answer_at_once, longest_of};
 use super::ended::Ended;
 use super::task::Task;
-use convoy_commands::{Answer, Fault, Watch};
+use convoy_best_plan::PlanWatch;
+use convoy_commands::{Answer, Fault};
 use convoy_scenario::Scenario;
 use convoy_streams::{DeviceFailed, Sink, Source, read_to_end, write_all};
 use std::alloc::Global;
@@ -22,7 +23,7 @@ use std::thread::Threads;
 /// `ReadFault::TooLong` at the read that brings a byte past [`longest_of`] the task, and `ReadFault::TooManyReads`
 /// where `most_reads` reads give bytes and none the end; and `Fault::Write` where the sink fails, after a front of the
 /// answer has gone out.
-pub fn run_task<R: Threads + Wait + Sync, S: Source, K: Sink, W: Watch + Sync>(
+pub fn run_task<R: Threads + Wait + Sync, S: Source, K: Sink, W: PlanWatch + Sync>(
     rt: &R,
     alloc: Global,
     task: &Task,

@@ -2,7 +2,7 @@ use Rattle.std.proofs.Common.{◌≡◌, ℕ, Option, Some, None, refl, is_none,
 use Rattle.std.proofs.lemmas.List.Sums.{count_by-le-length}
 use Rattle.convoy_plans.specs.Placements.{Completes}
 use Rattle.convoy_best_plan.proofs.Placing.{completes_none}
-use Rattle.convoy_best_plan.proofs.planning.best_plan.Goals as goal
+use Rattle.convoy_best_plan.proofs.planning.chosen_of.Goals as goal
 
 -- what holds of no number holds of none alone
 only_none : (P : Option ℕ → Type 0) → ((x : ℕ) → P (Some x) → ⊥) → (y : Option ℕ) → P y → y ≡ None
@@ -16,12 +16,9 @@ search_below-requires-clause-left g c κs within =
     let long = c.in_ok-sites.ensures.len in
     omega (arith, most, items, long)
 
-pub settled_if-requires-clause-passed : goal.settled_if-requires-clause-passed
-settled_if-requires-clause-passed g c κs within =
+pub returns-clause-passed : goal.returns-clause-passed
+returns-clause-passed g c =
     let none : c.in_ok-sites.sites.items ≡ replicate c.group_count-groups.result None = c.in_ok-sites.ensures.items_if_clones_equal (only_none _ (λ x same. same)) in
     λ placement is new.
     c.in_ok-standing.ensures.passed placement is new
     (subst (Completes placement) (sym (c.deref.ensures.value ∙ none)) (completes_none placement c.group_count-groups.result))
-
-pub returns : goal.returns
-returns g c = c.settled_if.ensures
