@@ -10,7 +10,7 @@ import itertools
 
 import schedules
 from placing import CLIENT, client_sites, homes_of, keeps_apart, ranges_of, scenario_of, total_of
-from tables import longest_wait, tick_of, ticks
+from tables import longest_wait, ticks
 
 
 class Faulty(Exception):
@@ -196,7 +196,7 @@ def split(plan, floor, lines, placed, number):
 
 def commit(plan, floor, lines, placed, number):
     """A target is committed too late, wherever the other groups are."""
-    hold(number < len(plan.targets) and tick_of(plan.table), "no commit")
+    hold(number < len(plan.targets), "no commit")
     target = plan.targets[number]
     needed = floor[0] + (plan.total_known(placed) < floor[1])
     hold(plan.excess(target, plan.commit_known(placed, plan.message(target), target[1])) >= needed, "an early commit")

@@ -27,7 +27,7 @@ class Scenario:
         """Message by message: its wait, if it may wait, the message itself, and then the proposals, as (message, from, to, which)."""
         for number, (sender, to, _) in enumerate(self.messages):
             yield from [(number, sender, sender, WAIT)] * bool(self.waits[number])
-            yield from ((number, sender, g, MESSAGE) for g in to if g != sender)
+            yield from ((number, sender, g, MESSAGE) for g in to if g != sender or (sender, g) in self.links)
             yield from ((number, h, g, PROPOSAL) for h in to for g in to if h != g)
 
     def ranges(self):
@@ -69,7 +69,7 @@ class Scenario:
     def in_finer_ticks(self, times):
         """The scenario with each tick cut into so many: all ranges are written as links."""
         places = [CLIENT, *range(self.groups)]
-        pairs = [(a, b) for a in places for b in range(self.groups) if a != b]
+        pairs = [(a, b) for a in places for b in range(self.groups) if a != b or (a, b) in self.links]
         ranges = {pair: self.links.get(pair, (1, self.delay)) for pair in pairs}
         links = {pair: (times * least, times * most) for pair, (least, most) in ranges.items()}
         messages = [(sender, to, times * at) for sender, to, at in self.messages]
@@ -227,6 +227,21 @@ def chance_windows(chance, real):
     sender, to, _ = messages[target]
     messages[target] = sender, sorted({at, *to}), begin
     return Scenario(delay, groups, messages, target, at, chance_narrow_links(chance, delay, groups), real, waits)
+
+
+def chance_home(chance, real):
+    """A scenario of two to four messages, most of them of groups that send to themselves, where most groups have links to
+    themselves; in a third of them each message may wait."""
+    delay, groups = chance.choice([1, 2, 2, 3] if real else [2, 3, 3, 4]), chance.choice([2, 2, 3])
+    messages = []
+    for _ in range(chance.randint(2, 4)):
+        to = sorted(chance.sample(range(groups), chance.choice([1, 2, 2])))
+        messages.append((chance.choice([CLIENT, *to, *to]), to, chance.randint(0, 2 * delay)))
+    target = chance.randrange(len(messages))
+    homes = {(group, group): sorted((chance.randint(1, delay), chance.randint(1, delay))) for group in range(groups) if chance.random() < 0.7}
+    waits = [chance.randint(0, 2) for _ in messages] if chance.random() < 0.34 else None
+    links = chance_narrow_links(chance, delay, groups) | homes
+    return Scenario(delay, groups, messages, target, chance.choice(messages[target][1]), links, real, waits)
 
 
 def chance_target(chance, real):
