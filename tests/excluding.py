@@ -6,6 +6,7 @@ targets, each a text of its own, are for `check --scenario`.
 """
 
 import functools
+import inspect
 import itertools
 
 import schedules
@@ -184,7 +185,12 @@ def tree(plan, floor, lines, placed):
     word = next((word for word in "scanw" if lines.begins(word)), None)
     hold(word, "no node")
     numbers = lines.next(word)
-    {"s": split, "c": commit, "a": apart, "n": no_scenario, "w": late}[word](plan, floor, lines, placed, *numbers)
+    node = {"s": split, "c": commit, "a": apart, "n": no_scenario, "w": late}[word]
+    try:
+        given = inspect.signature(node).bind(plan, floor, lines, placed, *numbers)
+    except TypeError as wrong:
+        raise Faulty("more or fewer numbers than the node has") from wrong
+    node(*given.args)
 
 
 def split(plan, floor, lines, placed, number):
