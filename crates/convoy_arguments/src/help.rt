@@ -547,7 +547,7 @@ In `group` an issue names the group that sends, or nothing, where a client does.
 of which the trace tells when it was sent and when it came counts for its link. LEAST is
 the least time that one took, with the margin less, and MOST the greatest, with the margin
 more. With `--check` it tells which packets of a trace left the ranges of a scenario; the
-exit status is 7 where one did.";
+exit status is 7 where one did. What a group sends to itself counts in neither.";
 
 pub(crate) const ABOUT_MARGIN: &str = "\
 How many percent longer than the greatest that was measured a round trip may be, or a
@@ -693,8 +693,8 @@ How many rows of the table are made at a time, each in a thread of its own: from
 to 16, and 1 without this option. The table does not depend on it";
 
 pub(crate) const ABOUT_PROGRESS: &str = "\
-Tells on standard error, once a second, how far the search has come. Where that
-is a terminal it is told anyway";
+Tells on standard error, once a second, how far the search has come, and of `plan`
+how many placements are passed. Where that is a terminal it is told anyway";
 
 pub(crate) const ABOUT_STATUS: &str = "\
 Tells by the exit status how the scenarios end: 5 where one is beyond its deadline,

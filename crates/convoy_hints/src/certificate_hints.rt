@@ -279,7 +279,7 @@ fn form_of_line(expected: Expected, text: &[u8]) -> &'static str {
         Expected::Delay => "'delay D'",
         Expected::Groups => "'groups G ..'",
         Expected::Link =>
-            "'link FROM TO LEAST MOST', in ascending order, and not with the range 1 to D",
+            "'link FROM TO LEAST MOST', in ascending order, and not with the range 1 to D but from a group to itself",
         Expected::Multicast if says_time(text) =>
             "'multicast NAME FROM AT TO ..', with FIRST..LAST for AT where the message may wait, and the destinations in the order of the groups",
         Expected::Multicast =>

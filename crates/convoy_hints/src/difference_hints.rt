@@ -108,7 +108,8 @@ fn groups_in(alloc: Global, scenario: &Scenario) -> Result<String, AllocError> {
     format!(in alloc; "{names}")
 }
 
-/// The first link, of either, with another range than in the other one. Without a link the range is 1 to D.
+/// The first link, of either, with another range than in the other one. Without a link the range is 1 to D, and what a group
+/// sends to itself takes no time.
 fn difference_in_links(alloc: Global, found: &Scenario, wanted: &Scenario) -> Hint {
     for link in wanted.links().iter().chain(found.links()) {
         if let Some(line) = difference_in_link(alloc, found, wanted, link)? {
@@ -145,6 +146,9 @@ fn sender_in(alloc: Global, scenario: &Scenario, sender: Sender) -> Result<Strin
 
 /// The range of what goes the way of a link: `1 to 2 ticks`.
 fn range_in(alloc: Global, scenario: &Scenario, link: &Link) -> Result<String, AllocError> {
+    if !scenario.takes_time(link.sender, link.to) {
+        return String::from_str(alloc, "no time");
+    }
     let (least, most) = scenario.range_between(link.sender, link.to);
     let first = shown_time(alloc, i64::from(least), scenario.tick())?;
     let last = shown_time(alloc, i64::from(most), scenario.tick())?;

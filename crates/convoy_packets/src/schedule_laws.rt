@@ -9,7 +9,7 @@ ghost use Rattle.convoy_packets.specs.ScheduleLaws.{RanksGiveOrders, RanksAreFew
 ghost use Rattle.convoy_packets.specs.ScheduleLaws.{FixedOrderIsDecided};
 
 /// The list has just the packets of the scenario: the wait of each message that may wait, each message
-/// to each of its destinations but its sender, and the stamp of each destination to each other one.
+/// to each of its destinations to which it takes time, and the stamp of each destination to each other one.
 pub fn packets_are_those_sent()
     ensures { PacketsAreThoseSent }
 {}

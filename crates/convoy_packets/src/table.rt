@@ -61,7 +61,7 @@ impl PacketTable {
         self.packets.len()
     }
 
-    /// Whether there is no packet, as where each message goes to its sender alone.
+    /// Whether there is no packet, as where each message goes to its sender alone, by no link.
     pub fn is_empty(&self) -> bool
         ensures { result ≡ (length self.now.packets == 0) }
     {

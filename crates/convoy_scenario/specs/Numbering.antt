@@ -60,7 +60,7 @@ put link (other ∷ others) =
     else if is_before link other then link ∷ other ∷ others
     else other ∷ others
 
--- the links, ascending, but for those with the whole range
+-- the links, ascending, but for those between two places with the whole range
 abbrev pub in_order : ℕ → List Link → List Link
 in_order delay [] = []
 in_order delay (link ∷ links) = if is_whole delay link then in_order delay links else put link (in_order delay links)

@@ -22,7 +22,7 @@ pub record Link : Type 0 where
   pub least : ℕ
   pub most : ℕ
 
--- a scenario: how time goes in it, how many nanoseconds a tick lasts where that is known, D, the groups' names, the links whose range is not 1 to D, the messages, and the message and the group of which the latency is asked
+-- a scenario: how time goes in it, how many nanoseconds a tick lasts where that is known, D, the groups' names, the links but for those between two places whose range is 1 to D, the messages, and the message and the group of which the latency is asked
 pub record Scenario : Type 0 where
   pub time : Time
   pub tick : Option ℕ

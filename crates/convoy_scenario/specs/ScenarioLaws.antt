@@ -52,7 +52,7 @@ pub record IsNamedTarget (draft : Draft) (scenario : Scenario) : Type 0 where
 abbrev pub TargetsAreNamed : Type 0
 TargetsAreNamed = (draft : Draft) (scenario : Scenario) → scenario_of_draft draft ≡ Ok scenario → IsNamedTarget draft scenario
 
--- links that ascend, of which none has the whole range, stay as they are
+-- links that ascend, of which none leads to another place with the whole range, stay as they are
 abbrev pub OrderedLinksStay : Type 0
 OrderedLinksStay =
     (delay : ℕ) (links : List Link) → IsTrue (ascend_after None links) → AllByRecursion (λ link. is_whole delay link ≡ false) links → in_order delay links ≡ links

@@ -14,7 +14,7 @@ pub enum Part {
     Delay,
     /// The groups, by their names and in their order.
     Groups,
-    /// The links whose range is not 1 to D.
+    /// The links, but for those between two places whose range is 1 to D.
     Links,
     /// The messages, in their order.
     Multicasts,

@@ -70,7 +70,8 @@ pub struct ScenarioParts<'a> {
     pub delay: u32,
     /// The names of the groups.
     pub groups: &'a [&'a str],
-    /// The links, in any order; between places without a link a packet takes 1 to `delay` ticks.
+    /// The links, in any order; between places without a link a packet takes 1 to `delay` ticks, and what a group sends to
+    /// itself by none takes no time.
     pub links: &'a [LinkParts<'a>],
     /// The messages, in the order of their numbers.
     pub messages: &'a [MessageParts<'a>],

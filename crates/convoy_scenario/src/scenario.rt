@@ -282,7 +282,7 @@ impl Scenario {
         self.groups[group].as_str()
     }
 
-    /// How many links there are whose range is not 1 to D.
+    /// How many links there are, but for those between two places whose range is 1 to D.
     pub fn link_count(&self) -> usize
         ensures value { result ≡ length self.now.links }
         ensures lawful { IsScenario self.now }
@@ -290,8 +290,8 @@ impl Scenario {
         self.links.len()
     }
 
-    /// The links whose range is not 1 to D, in ascending order: by sender, a client first, and then by
-    /// the group that they lead to.
+    /// The links, but for those between two places whose range is 1 to D, in ascending order: by sender, a client first, and
+    /// then by the group that they lead to.
     pub fn links(&self) -> &[Link]
         ensures value { result.now ≡ self.now.links }
         ensures lawful { IsScenario self.now }

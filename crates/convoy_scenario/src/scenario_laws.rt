@@ -49,13 +49,15 @@ pub fn targets_are_named()
     ensures { TargetsAreNamed }
 {}
 
-/// Links that ascend, of which none has the whole range, stay as they are where they are put in order.
+/// Links that ascend, of which none leads to another place with the whole range, stay as they are where they are put in
+/// order.
 pub fn ordered_links_stay()
     ensures { OrderedLinksStay }
 {}
 
 /// What goes from one place to another has the range of the link that is written between them, and 1 to D
-/// where none is, though the links of a scenario stand in order and those with the whole range are left out.
+/// where none is, though the links of a scenario stand in order and those with the whole range are left out, but for links
+/// to themselves.
 pub fn order_keeps_ranges()
     ensures { OrderKeepsRanges }
 {}

@@ -112,7 +112,7 @@ first_unordered groups number [] = None
 first_unordered groups number (message ∷ messages) =
     if is_ordered groups message then first_unordered groups (number + 1) messages else Some number
 
--- the number of the first line whose link does not follow the one before it, or has the whole range, where the first of the lines has this number
+-- the number of the first line whose link does not follow the one before it, or leads to another place with the whole range, where the first of the lines has this number
 abbrev pub first_misplaced : ℕ → Option AnyLink → ℕ → List AnyLink → Option ℕ
 first_misplaced delay before number [] = None
 first_misplaced delay before number (link ∷ links) =

@@ -70,7 +70,7 @@ fn most_comings(instance: &Instance, message: usize) -> u16
 }
 
 /// The least and the greatest delay after which a message arrives at the target's group, in ticks; 0
-/// and 0 where the group sends the message itself.
+/// and 0 where the group sends the message itself and has no link to itself.
 pub fn coming_range(instance: &Instance, message: usize) -> (u16, u16) {
     match instance
         .table()

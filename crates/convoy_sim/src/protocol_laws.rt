@@ -122,7 +122,7 @@ pub fn arrives_before_commit()
     ensures { ArrivesBeforeCommit }
 {}
 
-/// A message arrives at the group that sends it as it is issued.
+/// A message arrives at the group that sends it as it is issued, unless that has a link to itself.
 pub fn sender_has_it_at_once()
     ensures { SenderHasItAtOnce }
 {

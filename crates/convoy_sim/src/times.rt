@@ -52,7 +52,7 @@ impl<'a> Times<'a> {
     }
 
     /// The tick at which the message arrives at the group: its issue and the delay of its packet to
-    /// the group. To the group that sends it there is no packet, so it comes there as it is issued.
+    /// the group. To the group that sends it there is no packet, unless that has a link to itself: it comes there as it is issued.
     #[tactic(auto, unfolding(crate::specs::Times::arrive, convoy_packets::specs::Assignment::delay_of))]
     pub(crate) fn arrival(&self, message: usize, group: usize) -> u32
         requires message { message < length self.now.scenario.multicasts }

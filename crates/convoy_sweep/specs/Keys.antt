@@ -18,7 +18,7 @@ use Rattle.convoy_sweep.specs.declared.kinds.SweepKey.TheVariants.{Delay, At, Un
 abbrev pub way_name : List ℕ → List ℕ → List ℕ
 way_name sender to = sender ++ codes "-" ++ to
 
--- the name is that of the way from the sender to the group, which are two places, or one where these are all of a table
+-- the name is that of the way from the sender to the group: two places, or one group where the table has no other
 abbrev pub names_way : Bool → List ℕ → List ℕ → List ℕ → Bool
 names_way are_all name sender to = (are_all || not (bytes_eq sender to)) && bytes_eq name (way_name sender to)
 

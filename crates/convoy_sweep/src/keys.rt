@@ -74,8 +74,7 @@ fn is_way_from(are_all: bool, name: &Name, sender: &str, groups: &[Name]) -> boo
     groups.iter().any(|group| names_way(are_all, name.as_str(), sender, group.as_str()))
 }
 
-/// Whether the name is that of the way from the sender to the group, which are two places, or one where these are all of a
-/// table.
+/// Whether the name is that of the way from the sender to the group: two places, or one group where the table has no other.
 fn names_way(are_all: bool, name: &str, sender: &str, to: &str) -> bool
     ensures { result ≡ names_way are_all name.now sender.now to.now }
 {

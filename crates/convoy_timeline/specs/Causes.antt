@@ -54,7 +54,7 @@ abbrev pub flight_in : List Packet → List ℕ → Packet → Option Flight
 flight_in packets delays packet =
     option_map (λ i. record { packet = i; delay = slice_index delays i }) (place_of packet packets)
 
--- a packet and its delay, where the scenario sends it: a group sends itself none
+-- a packet and its delay, where the scenario sends it: a group sends itself no stamp, and a message only by a link to itself
 abbrev pub flight_of : Scenario → Schedule → Packet → Option Flight
 flight_of scenario schedule packet = flight_in (packets_of scenario) schedule.delays packet
 

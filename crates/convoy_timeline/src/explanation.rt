@@ -27,7 +27,7 @@ pub struct LastProposal {
     pub issued: u32,
     /// The number of the group that proposes.
     pub from: usize,
-    /// The message on its way to that group; none where that group sends it.
+    /// The message on its way to that group; none where that group sends it and has no link to itself.
     pub sent: Option<Flight>,
     /// What that group proposes, as the message comes there.
     pub proposal: Proposal,
