@@ -26,7 +26,7 @@ impl Pace {
     /// It begins, as if it had not before.
     pub fn begin(&self, now: u64) {
         self.begun.store(now, Ordering::SeqCst);
-        self.due.store(now.saturating_add(PAUSE), Ordering::SeqCst);
+        self.put_off(now);
     }
 
     /// It begins, unless it has before.
@@ -35,8 +35,13 @@ impl Pace {
             .begun
             .compare_exchange(0, now, Ordering::SeqCst, Ordering::SeqCst);
         if first.is_ok() {
-            self.due.store(now.saturating_add(PAUSE), Ordering::SeqCst);
+            self.put_off(now);
         }
+    }
+
+    /// The next line is due as long after that time as after a line.
+    pub fn put_off(&self, now: u64) {
+        self.due.store(now.saturating_add(PAUSE), Ordering::SeqCst);
     }
 
     /// How many milliseconds have passed since it began.

@@ -386,5 +386,6 @@ impl<'a, R: Clock> PlanWatch for Progress<'a, R> {
             self.end_line();
             self.together.told.store(false, Ordering::SeqCst);
         }
+        self.together.pace.put_off(self.now());
     }
 }
