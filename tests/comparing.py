@@ -6,7 +6,7 @@ import random
 import sys
 
 import schedules
-from schedules import chance_scenario, delays_of_certificate, latency, ranks_of_certificate, small_scenarios
+from schedules import chance_home, chance_scenario, chance_target, delays_of_certificate, latency, ranks_of_certificate, small_scenarios
 from support import count, need, run, tell, want
 
 
@@ -43,6 +43,16 @@ def in_turn(further, scenarios, every):
     """The further checks of scenarios: each is made of one scenario in so many, the next check of the scenarios after these."""
     for turn, check in enumerate(further):
         yield from ((check, place, scenario) for place, scenario in enumerate(scenarios) if place % every == turn % every)
+
+
+# The kinds of scenarios that have a word, and how they are made.
+KINDS = {"windows": chance_target, "home": chance_home}
+
+
+def kind_of(words):
+    """How scenarios are made, by the first word if it is one of a kind, and the other words."""
+    named = words[:1] if words and words[0] in KINDS else []
+    return KINDS[named[0]] if named else chance_scenario, words[len(named) :]
 
 
 def main(documentation, real, most, further=(), every=1, made=chance_scenario, words=None):
