@@ -51,7 +51,6 @@ class Group:
         """A message comes, and gets its local stamp."""
         self.clock += 1
         self.local[message] = (self.clock, self.number)
-        self.hear(message, self.number, self.local[message])
 
     def hear(self, message, sender, stamp):
         """A proposal comes, also before the message itself."""
@@ -121,13 +120,16 @@ class Play:
             self.tell(DELIVERY, free, number, time, group.final[free])
 
     def arrive(self, time, group, message, to):
-        """A group proposes the stamp that a message gets there: to others by packets, and to itself at once."""
+        """A group proposes the stamp that a message gets there: to others by packets, and to itself at once, unless its link
+        to itself is for stamps."""
         group.arrive(message)
         stamp = group.local[message]
         self.tell(ARRIVAL, message, group.number, time, stamp)
-        self.tell(PROPOSAL, message, group.number, time, stamp, group.number)
+        if group.number not in self.scenario.stamps:
+            group.hear(message, group.number, stamp)
+            self.tell(PROPOSAL, message, group.number, time, stamp, group.number)
         for other in to:
-            if other != group.number:
+            if other != group.number or other in self.scenario.stamps:
                 self.send(time + self.takes[message, group.number, other, PROPOSAL], PROPOSAL, message, other, group.number)
 
     def has_ties(self):

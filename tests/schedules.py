@@ -15,20 +15,20 @@ WAIT, MESSAGE, PROPOSAL = "wait", "message", "proposal"
 
 class Scenario:
     """How many groups there are, messages as (sender or CLIENT, destinations, first tick of issue), the target's number and
-    group, links as ranges by (sender or CLIENT, destination), whether its time is real, and how many ticks each message may
-    wait for its issue; none may where that is not told."""
+    group, links as ranges by (sender or CLIENT, destination), whether its time is real, how many ticks each message may
+    wait for its issue, where none may if that is not told, and the groups whose links to themselves are for stamps, too."""
 
-    def __init__(self, delay, groups, messages, target, at, links, real=False, waits=None):
+    def __init__(self, delay, groups, messages, target, at, links, real=False, waits=None, stamps=()):
         self.delay, self.groups, self.messages = delay, groups, messages
         self.target, self.at, self.links, self.real = target, at, links, real
-        self.waits = waits or [0] * len(messages)
+        self.waits, self.stamps = waits or [0] * len(messages), stamps
 
     def packets(self):
         """Message by message: its wait, if it may wait, the message itself, and then the proposals, as (message, from, to, which)."""
         for number, (sender, to, _) in enumerate(self.messages):
             yield from [(number, sender, sender, WAIT)] * bool(self.waits[number])
             yield from ((number, sender, g, MESSAGE) for g in to if g != sender or (sender, g) in self.links)
-            yield from ((number, h, g, PROPOSAL) for h in to for g in to if h != g)
+            yield from ((number, h, g, PROPOSAL) for h in to for g in to if h != g or g in self.stamps)
 
     def ranges(self):
         """What each packet may take, and how long each message may wait, in the order of the packets."""
@@ -61,9 +61,10 @@ class Scenario:
         lines += [f"least = {told(least)}"] if self.real else []
         lines += [f"groups = {quoted(range(self.groups))}", ""]
         tables = zip(itertools.count(), self.messages, self.issues())
+        homes = [(group, group) for group in self.stamps]
         lines += itertools.chain.from_iterable(message_lines(*each, told) for each in tables)
         lines += ["[target]", f'message = "m{self.target}"', f'group = "g{self.at}"', ""]
-        lines += itertools.chain.from_iterable(link_lines(*each, told) for each in self.links.items())
+        lines += itertools.chain.from_iterable(link_lines(*each, told, each[0] in homes) for each in self.links.items())
         return "\n".join(lines)
 
     def in_finer_ticks(self, times):
@@ -74,21 +75,21 @@ class Scenario:
         links = {pair: (times * least, times * most) for pair, (least, most) in ranges.items()}
         messages = [(sender, to, times * at) for sender, to, at in self.messages]
         waits = [times * wait for wait in self.waits]
-        return Scenario(times * self.delay, self.groups, messages, self.target, self.at, links, self.real, waits)
+        return Scenario(times * self.delay, self.groups, messages, self.target, self.at, links, self.real, waits, self.stamps)
 
     def issued_after(self, waits):
         """The scenario in which each message has waited so long, and waits no longer."""
         messages = [(sender, to, at + wait) for (sender, to, at), wait in zip(self.messages, waits)]
-        return Scenario(self.delay, self.groups, messages, self.target, self.at, self.links, self.real)
+        return Scenario(self.delay, self.groups, messages, self.target, self.at, self.links, self.real, stamps=self.stamps)
 
     def waiting(self, waits):
         """The scenario in which each message may wait so long."""
-        return Scenario(self.delay, self.groups, self.messages, self.target, self.at, self.links, self.real, waits)
+        return Scenario(self.delay, self.groups, self.messages, self.target, self.at, self.links, self.real, waits, self.stamps)
 
     def issued_later(self, ticks):
         """The scenario in which each message may be issued so many ticks later, and no sooner."""
         messages = [(sender, to, at + ticks) for sender, to, at in self.messages]
-        return Scenario(self.delay, self.groups, messages, self.target, self.at, self.links, self.real, self.waits)
+        return Scenario(self.delay, self.groups, messages, self.target, self.at, self.links, self.real, self.waits, self.stamps)
 
     def widened(self):
         """The scenario in which the target is issued at the end of its window, and each other message may wait as much longer as
@@ -96,7 +97,7 @@ class Scenario:
         longer = self.waits[self.target]
         messages = [(sender, to, at + longer * (number == self.target)) for number, (sender, to, at) in enumerate(self.messages)]
         waits = [0 if number == self.target else wait + longer for number, wait in enumerate(self.waits)]
-        return Scenario(self.delay, self.groups, messages, self.target, self.at, self.links, self.real, waits)
+        return Scenario(self.delay, self.groups, messages, self.target, self.at, self.links, self.real, waits, self.stamps)
 
 
 def quoted(groups):
@@ -116,10 +117,11 @@ def message_lines(number, message, issue, told):
     return ["[[multicast]]", f'name = "m{number}"', *sender_lines(sender), f"to = {quoted(to)}", *times, ""]
 
 
-def link_lines(pair, bounds, told):
+def link_lines(pair, bounds, told, is_for_stamps=False):
     """The table of a link."""
     (sender, to), (least, most) = pair, bounds
-    return ["[[link]]", *sender_lines(sender), f'to = "g{to}"', f"least = {told(least)}", f"most = {told(most)}", ""]
+    bounds = [f"least = {told(least)}", f"most = {told(most)}"]
+    return ["[[link]]", *sender_lines(sender), f'to = "g{to}"', *bounds, *["stamps = true"] * is_for_stamps, ""]
 
 
 def of_certificate(text):
@@ -132,9 +134,10 @@ def of_certificate(text):
     messages = [(place(sender), [place(name) for name in to], at) for (_, sender, _, *to), (at, _) in zip(of_word("multicast"), windows)]
     target, group = of_word("target")[0]
     number = [name for name, *_ in of_word("multicast")].index(target)
-    links = {(place(sender), place(to)): (int(least), int(most)) for sender, to, least, most in of_word("link")}
+    links = {(place(sender), place(to)): (int(least), int(most)) for sender, to, least, most, *_ in of_word("link")}
     waits = [last - first for first, last in windows]
-    return Scenario(int(delay), len(names), messages, number, place(group), links, ["real"] in of_word("time"), waits)
+    stamps = {place(to) for _, to, _, _, *stamps in of_word("link") if stamps}
+    return Scenario(int(delay), len(names), messages, number, place(group), links, ["real"] in of_word("time"), waits, stamps)
 
 
 def window_of(issue):
@@ -231,7 +234,7 @@ def chance_windows(chance, real):
 
 def chance_home(chance, real):
     """A scenario of two to four messages, most of them of groups that send to themselves, where most groups have links to
-    themselves; in a third of them each message may wait."""
+    themselves, some of which are for stamps, too; in a third of them each message may wait."""
     delay, groups = chance.choice([1, 2, 2, 3] if real else [2, 3, 3, 4]), chance.choice([2, 2, 3])
     messages = []
     for _ in range(chance.randint(2, 4)):
@@ -241,7 +244,8 @@ def chance_home(chance, real):
     homes = {(group, group): sorted((chance.randint(1, delay), chance.randint(1, delay))) for group in range(groups) if chance.random() < 0.7}
     waits = [chance.randint(0, 2) for _ in messages] if chance.random() < 0.34 else None
     links = chance_narrow_links(chance, delay, groups) | homes
-    return Scenario(delay, groups, messages, target, chance.choice(messages[target][1]), links, real, waits)
+    stamps = {group for group, _ in homes if chance.random() < 0.4}
+    return Scenario(delay, groups, messages, target, chance.choice(messages[target][1]), links, real, waits, stamps)
 
 
 def chance_target(chance, real):

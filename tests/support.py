@@ -3,6 +3,7 @@
 import argparse
 import importlib.machinery
 import importlib.util
+import resource
 import subprocess
 import sys
 import typing
@@ -16,6 +17,10 @@ PATIENCE = 60
 
 class Wrong(Exception):
     """What is wrong with an answer."""
+
+
+class NotTested(Exception):
+    """Why a check can't be made on this machine, or not now."""
 
 
 class Answer(typing.NamedTuple):
@@ -47,6 +52,12 @@ def run(words, text="", before=None):
     except subprocess.TimeoutExpired as late:
         raise Wrong(f"{words}: no end within {PATIENCE} seconds") from late
     return Answer(done.returncode, done.stdout.decode(), done.stderr.decode())
+
+
+def used_seconds():
+    """The seconds of processor time that all runs have taken that have ended: what else the machine does counts for little."""
+    used = resource.getrusage(resource.RUSAGE_CHILDREN)
+    return used.ru_utime + used.ru_stime
 
 
 def need(holds, what):
@@ -91,12 +102,15 @@ def share_of(words, documentation):
 
 
 def count(checks):
-    """Makes checks, each a name and a function that raises what is wrong, and answers how many passed and failed."""
+    """Makes checks, each a name and a function that raises what is wrong, and answers how many passed and failed. One that
+    can't be made is told, and is neither."""
     passed = failed = 0
     for name, check in checks:
         try:
             check()
             passed += 1
+        except NotTested as why:
+            print(f"{name}: not tested: {why}", flush=True)
         except Wrong as wrong:
             failed += 1
             print(f"{name}: {wrong}", flush=True)

@@ -30,6 +30,13 @@ class NoPlay(Exception):
     """Why nothing is played."""
 
 
+class TooBusy(NoPlay):
+    """The machine was late in each run: a run on a quiet one would be played."""
+
+    def __init__(self, tries):
+        super().__init__(f"this machine is too busy: something was late in each of {tries} runs")
+
+
 class Packet(typing.NamedTuple):
     """A message on its way to a group, or a proposal for it; or without a way a message that waits for its issue."""
 

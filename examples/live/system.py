@@ -9,7 +9,7 @@ import sys
 import typing
 
 from network import UNIT, now
-from plays import CLIENT, NoPlay, Plan, Scenario, part_of
+from plays import CLIENT, NoPlay, Plan, Scenario, TooBusy, part_of
 from traces import Trace
 
 HERE = pathlib.Path(__file__).resolve().parent
@@ -69,7 +69,7 @@ class System:
             trace = await self.play(plan, hasty)
             if trace.late <= margin:
                 return trace
-        raise NoPlay(f"this machine is too busy: something was late in each of {TRIES} runs")
+        raise TooBusy(TRIES)
 
 
 async def end(process: asyncio.subprocess.Process):

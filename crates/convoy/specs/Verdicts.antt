@@ -10,17 +10,17 @@ use Rattle.convoy_commands.specs.declared.fault.Fault.{Fault}
 use Rattle.convoy_commands.specs.declared.fault.Fault.TheVariants as faults
 use Rattle.convoy_commands.specs.Faults.{fault_line_of}
 use Rattle.convoy_commands.specs.Searches.{LatencySays}
-use Rattle.convoy_tasks.specs.Batches.{IsBatchRun}
-use Rattle.convoy_tasks.specs.declared.task.Task.{Task}
-use Rattle.convoy_tasks.specs.declared.task.Task.TheVariants.{BatchTable}
-use Rattle.convoy_tasks.specs.Abouts.{IsScenarioRead}
+use Rattle.convoy_batches.specs.Batches.{IsBatchRun}
+use Rattle.convoy_task_list.specs.declared.task.Task.{Task}
+use Rattle.convoy_task_list.specs.declared.task.Task.TheVariants.{BatchTable}
+use Rattle.convoy_tasks.specs.WantedReads.{IsScenarioRead}
 use Rattle.convoy_tasks.specs.Runs.{IsRun}
 use Rattle.convoy_tasks.specs.Tasks.{longest_for, task_says}
 use Rattle.convoy_arguments.specs.declared.input.Input.{Input}
 use Rattle.convoy_arguments.specs.declared.limits.TheConstants.{MOST_READS}
 use Rattle.convoy_arguments.specs.declared.verdict.Verdict.{Verdict}
 use Rattle.convoy_arguments.specs.declared.verdict.Verdict.TheVariants.{Ask, Batch, Text, Memory}
-use Rattle.convoy.specs.declared.ending.End.{End}
+use Rattle.convoy_hints_run.specs.declared.end.End.{End}
 
 -- the exit status for how a task ended
 abbrev pub status_of_done : Done → ℕ

@@ -2,31 +2,8 @@ ghost use Rattle.std.specs.Prelude.{◌≡◌};
 ghost use Rattle.convoy.specs.Verdicts.{status_of, status_of_done, status_told};
 
 use convoy_arguments::Verdict;
-use convoy_commands::{Done, Known};
-use convoy_scenario::Scenario;
-use convoy_tasks::Task;
-
-/// How the program did what its command line asks for, where there was no fault; and what it knows by then.
-#[derive(Drop)]
-pub struct End {
-    pub done: Done,
-    pub known: Option<Known>,
-    /// The scenario that a certificate was to be of, where one is named.
-    pub wanted: Option<Scenario>,
-}
-
-impl End {
-    /// An end of which no more is known.
-    pub fn of(done: Done) -> End
-        ensures { result.done ≡ done }
-    {
-        End {
-            done,
-            known: None,
-            wanted: None,
-        }
-    }
-}
+use convoy_commands::Done;
+use convoy_task_list::Task;
 
 /// The exit status of a run that had no fault.
 pub fn status_of(verdict: &Verdict, done: Done) -> u8

@@ -6,36 +6,29 @@ ghost use Rattle.std.specs.Prelude.{◌≡◌, ◌<◌, length};
 ghost use Rattle.convoy_arguments.specs.Verdicts.{IsVerdict};
 ghost use Rattle.convoy_arguments.specs.declared.limits.TheConstants.{MOST_READS};
 ghost use Rattle.convoy_commands.specs.Searches.{LatencySays};
-ghost use Rattle.convoy_tasks.specs.Batches.{IsBatchRun};
+ghost use Rattle.convoy_batches.specs.Batches.{IsBatchRun};
 ghost use Rattle.convoy_tasks.specs.Runs.{IsRun, done_of};
 ghost use Rattle.convoy_tasks.specs.Tasks.{longest_for, task_says};
 ghost use Rattle.convoy.specs.Verdicts.{IsWantedRead, Obeys, Performs, Tells, done_of_run};
 
 mod ending;
-mod hinting;
-mod kept;
-mod kept_measure;
-mod kind_hints;
 mod obeying;
-mod pace;
-mod placing;
-mod progress;
-mod sweep_hints;
-mod table_hints;
-mod trace_hints;
 
 use convoy_arguments::{Input, Inputs, MOST_READS, Verdict, judge, judge_bytes};
+use convoy_batches::run_batch;
 use convoy_best_plan::PlanWatch;
 use convoy_commands::{Done, Fault, Options, Watch, fault_line};
+use convoy_hints_run::{
+    End, Finished, KeptWriter, greeting, reads_standard, tell_ended, write_line,
+};
+use convoy_progress::{Progress, Together, screen_for, several_for};
 use convoy_scenario::Scenario;
 use convoy_streams::{DeviceFailed, Sink, Source, StreamSink, hold_closed, write_all};
-use convoy_tasks::{Ended, Task, read_scenario, run_batch, run_task};
+use convoy_task_list::Task;
+use convoy_tasks::{Ended, read_scenario, run_task};
 use convoy_toml::Asked;
-use ending::{End, FAULT, status_of};
-use hinting::{Finished, greeting, reads_standard, tell_ended, write_line};
-use kept::KeptWriter;
+use ending::{FAULT, status_of};
 use obeying::open_and_obey;
-use progress::{Progress, Together, screen_for, several_for};
 use std::alloc::Global;
 use std::io::{ErrorKind, IsTerminal};
 use std::process::ExitCode;

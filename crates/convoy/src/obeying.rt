@@ -4,11 +4,11 @@ ghost use Rattle.std.specs.Prelude.{◌<◌, length};
 ghost use Rattle.convoy_arguments.specs.Verdicts.{IsVerdict};
 ghost use Rattle.convoy.specs.Obeying.{HasObeyed};
 
-use super::ending::End;
 use super::obey;
 use convoy_arguments::Verdict;
 use convoy_best_plan::PlanWatch;
 use convoy_commands::Fault;
+use convoy_hints_run::End;
 use convoy_streams::{InputSource, Opener, Sink, source_of};
 use std::alloc::Global;
 use std::io::Stdin;

@@ -1,6 +1,5 @@
 -- what a reader has to know of the crates below
-pub use Rattle.convoy_branch.specs.Options
-pub use Rattle.convoy_tasks.specs.Tasks
+pub use Rattle.convoy_commands.specs.Options
 -- what a reader has to believe: which input a command line names, what a text may have, and what is asked for
 pub mod Inputs
 pub mod Texts

@@ -1,7 +1,9 @@
 -- What a command line asks for.
 use Rattle.std.specs.Prelude.{◌≡◌, ◌⊎◌, ℕ, List, Option, None, IsTrue, string_bytes}
-use Rattle.convoy_tasks.specs.declared.task.Task.{Task}
-use Rattle.convoy_tasks.specs.declared.task.Task.TheVariants.{Beside, Check, Fits}
+use Rattle.convoy_task_list.specs.declared.task.Task.{Task}
+use Rattle.convoy_task_list.specs.declared.task.Task.TheVariants.{Certificate, Trace}
+use Rattle.convoy_task_list.specs.declared.of_certificates.CertificateTask.TheVariants.{Check}
+use Rattle.convoy_task_list.specs.declared.of_traces.TraceTask.TheVariants.{Beside, Fits}
 use Rattle.convoy_arguments.specs.declared.input.Input.{Input}
 use Rattle.convoy_arguments.specs.declared.limits.TheConstants.{MOST_READS}
 use Rattle.convoy_arguments.specs.declared.verdict.Verdict.{Verdict}
@@ -19,9 +21,9 @@ EndsAtOnce Memory = Unit {0}
 
 -- a scenario is wanted only where a certificate is checked, or a trace is judged: no other task has a second input
 abbrev pub WantsOnlyIfJudges : Task → Option Input → Type 0
-WantsOnlyIfJudges (Check tells unit limit) wanted = Unit {0}
-WantsOnlyIfJudges (Fits skew unit) wanted = Unit {0}
-WantsOnlyIfJudges (Beside format unit) wanted = Unit {0}
+WantsOnlyIfJudges (Certificate unit limit (Check tells)) wanted = Unit {0}
+WantsOnlyIfJudges (Trace (Fits skew unit)) wanted = Unit {0}
+WantsOnlyIfJudges (Trace (Beside format unit)) wanted = Unit {0}
 WantsOnlyIfJudges task wanted = wanted ≡ None
 
 -- a task on its inputs, a batch that may read as often as each task, or an end at once

@@ -1,10 +1,11 @@
 //! What a command line asks beside a text: the target of a scenario, a deadline, and whether all is asked around the
-//! target; and the skew of the clocks of a trace.
+//! target; how long outages last; and the skew of the clocks of a trace.
 
 use super::escaping::Escaped;
-use super::settings::GREATEST_SPAN;
 use clap::ArgMatches;
+use convoy_command_line::GREATEST_SPAN;
 use convoy_fits_told::Skew;
+use convoy_outages::Outage;
 use convoy_ranges::{RangesAsked, Speed};
 use convoy_scenario::{Duration, Name};
 use convoy_sweep::{Setting, Sweep, UnreadSetting};
@@ -42,6 +43,12 @@ const AROUND: (&str, &str) = (
 const SKEW: (&str, &str) = (
     "--skew <TIME>",
     "write a duration above 0, as '3 ms', or a number of ticks, from 1 on",
+);
+
+/// The same of `--outage`.
+const OUTAGE: (&str, &str) = (
+    "--outage <SPAN>",
+    "write a duration above 0, as '5 s', or a number of ticks, from 1 on",
 );
 
 /// The same of `--target`.
@@ -139,6 +146,25 @@ fn skew_by(time: WrittenTime) -> Skew {
     match time {
         WrittenTime::Count(ticks) => Skew::Ticks(ticks.unsigned_abs()),
         WrittenTime::Lasting(duration) => Skew::Lasting(duration),
+    }
+}
+
+/// How long outages last in all, where they are asked for.
+pub(crate) fn outage_of(alloc: Global, given: &ArgMatches<'_>) -> Result<Option<Outage>, Unasked> {
+    let Some(word) = given.get_str("outage") else {
+        return Ok(None);
+    };
+    match time_in(word) {
+        Some(time) => Ok(Some(outage_by(time))),
+        None => Err(rejected(alloc, OUTAGE, word)),
+    }
+}
+
+/// The outage that lasts for a time.
+fn outage_by(time: WrittenTime) -> Outage {
+    match time {
+        WrittenTime::Count(ticks) => Outage::Ticks(ticks.unsigned_abs()),
+        WrittenTime::Lasting(duration) => Outage::Lasting(duration),
     }
 }
 

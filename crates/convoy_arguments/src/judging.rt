@@ -1,22 +1,18 @@
 ghost use Rattle.std.specs.Prelude.{◌≡◌, ◌⊎◌, IfOk};
 ghost use Rattle.convoy_arguments.specs.Verdicts.{EndsAtOnce, IsVerdict, WantsOnlyIfJudges};
 
-use super::asking::{Unasked, asked_of, curve_of, ranges_of, skew_of, sweep_of};
+use super::asking::{Unasked, asked_of};
 use super::escaping::{are_shown, with_escapes};
 use super::input::{Input, Inputs};
 use super::limits::{HELP, REJECTED};
 use super::manner::Manner;
-use super::options::{
-    first_of, format_of, is_image, options_of, simulations_of, steps_of, unit_of,
-};
-use super::parser::parser;
-use super::tips::without_tip;
+use super::options::options_of;
+use super::tasks::{task_of, tells_status};
 use super::verdict::Verdict;
 use clap::error::ErrorKind;
 use clap::{ArgMatches, Error};
-use convoy_best_order::Wanted;
-use convoy_commands::{Telling, TimeUnit};
-use convoy_tasks::Task;
+use convoy_command_line::{parser, without_tip};
+use convoy_task_list::{CertificateTask, ScenarioTask, Task, TraceTask};
 use convoy_toml::Asked;
 use std::alloc::{AllocError, Global};
 use std::convert::AsStr;
@@ -144,8 +140,9 @@ fn command_of<S: AsStr>(alloc: Global, words: &[S], names_command: bool) -> Resu
             verdict_of_command(alloc, name, given, Manner::of_command(given, names_command))
         }
         None => Ok(Verdict::Ask {
-            task: Task::First {
+            task: Task::Scenario {
                 asked: Asked::as_written(),
+                what: ScenarioTask::First,
             },
             inputs: Inputs {
                 text: Input::Standard,
@@ -213,53 +210,9 @@ fn verdict_for(
 /// What is told where both texts of a task would be read from standard input.
 fn both_standard(task: &Task) -> &'static str {
     match task {
-        Task::Fits { .. } | Task::Beside { .. } => TRACE_STANDARD,
+        Task::Trace(_) => TRACE_STANDARD,
         _ => BOTH_STANDARD,
     }
-}
-
-/// The task of the command of that name, of which a value may be none.
-fn task_of(
-    alloc: Global,
-    name: &str,
-    given: &ArgMatches<'_>,
-    asked: Asked,
-) -> Result<Task, Unasked> {
-    match name {
-        "sweep" => sweep_for(alloc, given, asked),
-        "ranges" => ranges_for(alloc, given),
-        "fits" => Ok(Task::Fits {
-            skew: skew_of(alloc, given)?,
-            unit: unit_of(given),
-        }),
-        _ => Ok(task_for(alloc, name, given, asked)?),
-    }
-}
-
-/// What is asked of a table of round trips, or of a trace.
-fn ranges_for(alloc: Global, given: &ArgMatches<'_>) -> Result<Task, Unasked> {
-    if given.get_str("check").is_some() {
-        return Ok(Task::Beside {
-            format: format_of(given),
-            unit: unit_of(given),
-        });
-    }
-    if !given.get_flag("trace") {
-        return Ok(Task::Ranges {
-            rules: ranges_of(alloc, given)?,
-        });
-    }
-    let unit = unit_of(given).unwrap_or(TimeUnit::Milliseconds);
-    if given.get_str("format").is_some() {
-        return Ok(Task::TraceTable {
-            format: format_of(given),
-            unit,
-        });
-    }
-    Ok(Task::TraceRanges {
-        rules: ranges_of(alloc, given)?,
-        unit,
-    })
 }
 
 /// The input of the scenario that a certificate is to be of, where `check` names one, or by which a trace is judged; no other
@@ -272,8 +225,12 @@ fn wanted_for(
     ensures { IfOk result (WantsOnlyIfJudges task.now) }
 {
     match task {
-        Task::Check { .. } | Task::Fits { .. } => scenario_in(alloc, given, "scenario"),
-        Task::Beside { .. } => scenario_in(alloc, given, "check"),
+        Task::Certificate {
+            what: CertificateTask::Check { .. },
+            ..
+        }
+        | Task::Trace(TraceTask::Fits { .. }) => scenario_in(alloc, given, "scenario"),
+        Task::Trace(TraceTask::Beside { .. }) => scenario_in(alloc, given, "check"),
         _ => Ok(None),
     }
 }
@@ -287,246 +244,6 @@ fn scenario_in(
     match given.get_str(option) {
         Some(name) => Ok(Some(Input::of(alloc, Some(name))?)),
         None => Ok(None),
-    }
-}
-
-/// Whether the exit status of a batch tells how its jobs end: also where a deadline is given for them.
-fn tells_status(given: &ArgMatches<'_>) -> bool {
-    given.get_flag("status") || given.get_str("at-most").is_some()
-}
-
-/// The task of the command of that name, where this is asked of the text.
-fn task_for(
-    alloc: Global,
-    name: &str,
-    given: &ArgMatches<'_>,
-    asked: Asked,
-) -> Result<Task, AllocError> {
-    match name {
-        "analyse" => Ok(Task::Analyse {
-            asked,
-            options: options_of(given),
-        }),
-        "latency" => Ok(Task::Latency {
-            with_ceiling: given.get_flag("ceiling"),
-            asked,
-            options: options_of(given),
-        }),
-        "simulate" => Ok(Task::Tell(Telling::Simulate)),
-        "timeline" => Ok(Task::Tell(Telling::Timeline)),
-        "packets" => Ok(Task::Tell(Telling::Packets)),
-        "scenario" => Ok(Task::Tell(Telling::Toml)),
-        "check" if given.get_flag("plan") => Ok(Task::CheckPlan {
-            wanted: wanted_of(given),
-            asked,
-        }),
-        "check" | "explain" | "draw" => Ok(certificate_task_for(name, given)),
-        "ceiling" => ceiling_for(alloc, given, asked),
-        "report" => Ok(Task::Report {
-            asked,
-            options: options_of(given),
-        }),
-        "budget" => Ok(budget_for(given, asked)),
-        "order" => Ok(order_for(given, asked)),
-        "plan" => Ok(plan_for(given, asked)),
-        "batch" | "survey" => Ok(table_for(name, given, asked)),
-        _ => Ok(Task::First { asked }),
-    }
-}
-
-/// What is asked of a certificate.
-fn certificate_task_for(name: &str, given: &ArgMatches<'_>) -> Task {
-    let limit = Some(steps_of(given));
-    match name {
-        "check" => Task::Check {
-            tells: given.get_flag("tell"),
-            unit: unit_of(given),
-            limit,
-        },
-        "explain" => Task::Explain {
-            with_ceiling: given.get_flag("ceiling"),
-            unit: unit_of(given),
-            limit,
-        },
-        _ => Task::Draw {
-            unit: unit_of(given),
-            limit,
-        },
-    }
-}
-
-/// What `ceiling` asks for of kinds of messages.
-fn kinds_for(given: &ArgMatches<'_>) -> Task {
-    if given.get_flag("all") {
-        Task::Kinds {
-            format: format_of(given),
-            unit: unit_of(given),
-        }
-    } else {
-        Task::WorstKind {
-            simulations: simulations_of(given),
-            unit: unit_of(given),
-        }
-    }
-}
-
-/// What `ceiling` asks for.
-fn ceiling_for(alloc: Global, given: &ArgMatches<'_>, asked: Asked) -> Result<Task, AllocError> {
-    if given.get_flag("kinds") {
-        return Ok(kinds_for(given));
-    }
-    let (simulations, unit) = (simulations_of(given), unit_of(given));
-    let group = match given.get_str("group") {
-        Some(name) => Some(String::from_str(alloc, name)?),
-        None if given.get_flag("all") => None,
-        None => {
-            return Ok(Task::Ceiling {
-                simulations,
-                asked,
-                unit,
-            });
-        }
-    };
-    Ok(Task::Ceilings {
-        format: format_of(given),
-        group,
-        simulations,
-        asked,
-        unit,
-    })
-}
-
-/// What `budget` asks for.
-fn budget_for(given: &ArgMatches<'_>, asked: Asked) -> Task {
-    Task::Budget {
-        format: format_of(given),
-        of_all: given.get_flag("all"),
-        of_ceiling: given.get_flag("ceiling"),
-        asked,
-        options: options_of(given),
-    }
-}
-
-/// What `order` asks for: the scenario with its groups in the best order, or a table.
-fn order_for(given: &ArgMatches<'_>, asked: Asked) -> Task {
-    let wanted = wanted_of(given);
-    if given.get_flag("scenario") {
-        return Task::Listing {
-            wanted,
-            asked,
-            options: options_of(given),
-        };
-    }
-    Task::Order {
-        format: format_of(given),
-        wanted,
-        with_reasons: given.get_flag("why"),
-        asked,
-        options: options_of(given),
-    }
-}
-
-/// What `plan` asks for by ceilings: the scenario of the best placement, or a table.
-fn plan_ceiling_for(given: &ArgMatches<'_>, asked: Asked) -> Task {
-    let wanted = wanted_of(given);
-    if given.get_flag("scenario") {
-        return Task::CeilingPlacing { wanted, asked };
-    }
-    Task::PlanCeiling {
-        format: format_of(given),
-        wanted,
-        asked,
-        unit: unit_of(given),
-    }
-}
-
-/// What `plan` asks for: the scenario of the best placement, or of the last of the best ones that are asked for, with its
-/// groups in the best order, a certificate of the best choice, or a table.
-fn plan_for(given: &ArgMatches<'_>, asked: Asked) -> Task {
-    if given.get_flag("ceiling") {
-        return plan_ceiling_for(given, asked);
-    }
-    let wanted = wanted_of(given);
-    if given.get_flag("scenario") {
-        return Task::Placing {
-            wanted,
-            first: first_of(given).unwrap_or(1),
-            asked,
-            options: options_of(given),
-        };
-    }
-    if given.get_flag("certificate") {
-        return Task::PlanCertificate {
-            wanted,
-            asked,
-            options: options_of(given),
-        };
-    }
-    Task::Plan {
-        format: format_of(given),
-        wanted,
-        with_reasons: given.get_flag("why"),
-        first: first_of(given),
-        asked,
-        options: options_of(given),
-    }
-}
-
-/// For which targets an order, or a placement with an order, is to be the best.
-fn wanted_of(given: &ArgMatches<'_>) -> Wanted {
-    if given.get_flag("all") {
-        Wanted::All
-    } else if given.get_str("target").is_some() {
-        Wanted::Asked
-    } else {
-        Wanted::Deadlines
-    }
-}
-
-/// What `sweep` asks for: a curve, or a table.
-fn sweep_for(alloc: Global, given: &ArgMatches<'_>, asked: Asked) -> Result<Task, Unasked> {
-    if is_image(given) {
-        return Ok(Task::Curve {
-            setting: curve_of(alloc, given)?,
-            envelope: given.get_flag("envelope"),
-            asked,
-            options: options_of(given),
-        });
-    }
-    Ok(Task::Sweep {
-        format: format_of(given),
-        sweep: sweep_of(alloc, given)?,
-        envelope: given.get_flag("envelope"),
-        asked,
-        options: options_of(given),
-    })
-}
-
-/// The table of searches that `survey` or `batch` asks for.
-fn table_for(name: &str, given: &ArgMatches<'_>, asked: Asked) -> Task {
-    let (format, options) = (format_of(given), options_of(given));
-    if name == "batch" {
-        return Task::BatchTable {
-            format,
-            asked,
-            options,
-            tells_status: tells_status(given),
-        };
-    }
-    if given.get_flag("without") {
-        Task::WhatIf {
-            format,
-            shows_all: given.get_flag("all"),
-            asked,
-            options,
-        }
-    } else {
-        Task::Survey {
-            format,
-            with_ceilings: given.get_flag("ceiling"),
-            asked,
-            options,
-        }
     }
 }
 

@@ -1,9 +1,6 @@
 /// How many reads of its input one run makes at most.
 pub const MOST_READS: u64 = 134_217_728;
 
-/// The greatest number of seconds after which a search can be asked to stop.
-pub const MOST_SECONDS: u32 = 1_000_000;
-
 /// The exit status of a command line that is rejected.
 pub const REJECTED: u8 = 2;
 

@@ -4,7 +4,7 @@ ghost use Rattle.convoy_arguments.specs.Verdicts.{file_of, scenario_file_of};
 use super::input::{Input, Inputs};
 use super::manner::Manner;
 use convoy_commands::Options;
-use convoy_tasks::Task;
+use convoy_task_list::Task;
 use convoy_toml::Asked;
 
 /// What is to be done for a command line.

@@ -1,10 +1,12 @@
 -- What a target keeps does not depend on the order of the groups behind its own.
-use Rattle.std.proofs.Common.{◌≡◌, ℕ, ◌<◌, List, ◌++◌, length, get_or, inl, inr, sym, ap, subst, ◌∙◌, arith}
+use Rattle.std.proofs.Common.{◌≡◌, ℕ, ◌<◌, List, ◌++◌, length, get_or, None, inl, inr, sym, ap, subst, ◌∙◌, arith}
 use Rattle.std.specs.List.{Contains}
 use Rattle.std.proofs.lemmas.Bool.{cases_lt}
 use Rattle.std.proofs.lemmas.List.{get_or_append_left, get_or_default, length-append}
+use Rattle.convoy_around.specs.AroundLaws.{AroundIsScenario}
 use Rattle.convoy_scenario.specs.Scenario.{Scenario}
 use Rattle.convoy_scenario.specs.ScenarioLaws.{DraftsGiveScenarios, ScenariosHaveDrafts}
+use Rattle.convoy_scenario.specs.WellFormed.{IsScenario}
 use Rattle.convoy_sim.specs.Greatest.{IsUpper}
 use Rattle.convoy_orders.specs.GreatestAt.{IsUpperAt}
 use Rattle.convoy_orders.specs.ListedOrder.{FewerBehindIsNoSlower, NoMoreAreBehind}
@@ -12,9 +14,12 @@ use Rattle.convoy_orders.specs.Relisted.{RelistedDraftsAreRenumbered, RelistedDr
 use Rattle.convoy_orders.specs.Renumbered.{IsRenumbered}
 use Rattle.convoy_orders.proofs.Composed.{composed}
 use Rattle.convoy_orders.proofs.SameParts.{goes_back, goes_there, turned}
-use Rattle.convoy_best_order.specs.OrderLaws.{OrderBehindIsFree}
+use Rattle.convoy_best_order.specs.declared.excess.Excess.{Excess}
+use Rattle.convoy_best_order.specs.declared.target.Target.{Target}
+use Rattle.convoy_best_order.specs.OrderLaws.{IsKeptIn, OrderBehindIsFree}
 use Rattle.convoy_best_order.specs.Orders.{IsOrder, listed, names_of}
-use Rattle.convoy_best_order.specs.Targets.{asked_of}
+use Rattle.convoy_best_order.specs.Targets.{MayBeTarget, asked_at, asked_of}
+use Rattle.convoy_best_order.proofs.Around.{kept_here, kept_there, may_at, order_at, well_at}
 use Rattle.convoy_best_order.proofs.Asking.{upper_from, upper_in, well_asked}
 use Rattle.convoy_best_order.proofs.Better.{group_known, same_in, same_made, stands, stands_at, well_in}
 use Rattle.convoy_best_order.proofs.Relisting.{in_order, is_listed}
@@ -61,8 +66,12 @@ module _ (scenario : Scenario) (ahead behind others : List ℕ) (is : IsOrder sc
             omega (arith, again, there, here, most, later))
       ]
 
-pub behind_free : ScenariosHaveDrafts → DraftsGiveScenarios → RelistedDraftsGiveScenarios → RelistedDraftsAreRenumbered → FewerBehindIsNoSlower → OrderBehindIsFree
-behind_free have given give renumbered slower scenario target ahead behind others most well may is other_is among kept = record {
+-- so it is of the scenario with that target
+free_behind : ScenariosHaveDrafts → DraftsGiveScenarios → RelistedDraftsGiveScenarios → RelistedDraftsAreRenumbered → FewerBehindIsNoSlower
+    → (scenario : Scenario) (target : Target) (ahead behind others : List ℕ) (most : Excess) → IsScenario scenario → MayBeTarget scenario target
+    → IsOrder scenario (ahead ++ behind) → IsOrder scenario (ahead ++ others) → Contains ahead target.group
+    → IsKeptIn None scenario (ahead ++ behind) most target → IsKeptIn None scenario (ahead ++ others) most target
+free_behind have given give renumbered slower scenario target ahead behind others most well may is other_is among kept = record {
   instance = in_order (asked_of scenario target) other;
   made = is_listed have give (asked_of scenario target) other (well_asked scenario target well may) other_is;
   latency = kept.latency;
@@ -110,3 +119,13 @@ behind_free have given give renumbered slower scenario target ahead behind other
       still_behind scenario ahead behind others is other_is same other_same target.group (back_of scenario order h) among known (omega (arith, again, later)) in
       let at = same.there_again h in
       omega (arith, less, at)
+
+-- and around the target
+pub behind_free : AroundIsScenario → ScenariosHaveDrafts → DraftsGiveScenarios → RelistedDraftsGiveScenarios → RelistedDraftsAreRenumbered → FewerBehindIsNoSlower
+    → OrderBehindIsFree
+behind_free formed have given give renumbered slower span scenario target ahead behind others most well may short is other_is among kept =
+    kept_here span scenario (ahead ++ others) most target
+    (free_behind have given give renumbered slower (asked_at span scenario target) target ahead behind others most
+    (well_at formed span short scenario target well may) (may_at formed span short scenario target well may)
+    (order_at span scenario target (ahead ++ behind) is) (order_at span scenario target (ahead ++ others) other_is) among
+    (kept_there span scenario (ahead ++ behind) most target kept))

@@ -1,5 +1,5 @@
 -- No order is better than the least that is told.
-use Rattle.std.proofs.Common.{All, ◌≡◌, ℕ, ◌-◌, ◌<◌, ◌≤◌, ◌==◌, Bool, true, false, cond, List, [], ◌∷◌, ◌++◌, length, map, get_or, Result, Ok, Err, inl, inr, refl, sym, ap, subst, ◌∙◌, append_assoc, arith}
+use Rattle.std.proofs.Common.{All, ◌≡◌, ℕ, ◌-◌, ◌<◌, ◌≤◌, ◌==◌, Bool, true, false, cond, List, [], ◌∷◌, ◌++◌, length, map, get_or, Option, None, Result, Ok, Err, IfSome, IsTrue, inl, inr, refl, sym, ap, subst, ◌∙◌, append_assoc, arith}
 use Rattle.std.specs.List.{Contains}
 use Rattle.std.specs.List.Sorted.{IsPermutation}
 use Rattle.std.proofs.lemmas.Bool.{both_ways, cond-true, eq-eqb, eqb-true, lt-ltb}
@@ -7,6 +7,8 @@ use Rattle.std.proofs.lemmas.List.{get_or-append_right, get_or-map, length-appen
 use Rattle.std.proofs.lemmas.List.FromFn.{get_or-range_with_len, length-range_with_len}
 use Rattle.std.proofs.lemmas.List.Sorted.{All-permutation, IsPermutation-sym, length_permutation}
 use Rattle.std.proofs.Math.Seq.{get_or-append_seam}
+use Rattle.convoy_around.specs.Around.{is_span}
+use Rattle.convoy_around.specs.AroundLaws.{AroundIsScenario}
 use Rattle.convoy_draft.specs.declared.fault.ScenarioFault.{ScenarioFault}
 use Rattle.convoy_draft.specs.Checks.{is_among}
 use Rattle.convoy_scenario.specs.Naming.{draft_for}
@@ -17,10 +19,11 @@ use Rattle.convoy_scenario.specs.WellFormed.{IsScenario}
 use Rattle.convoy_sim.proofs.Addressed.{in_of_goes, number_of_goes}
 use Rattle.convoy_sim.specs.Greatest.{IsReached}
 use Rattle.convoy_sim.proofs.Membership.{IsIn, all-in, in-map, in_of_contains, in_of_map}
-use Rattle.convoy_orders.specs.AllOrders.{IsHeldUp, NoOrderIsBelow}
-use Rattle.convoy_orders.specs.GreatestAt.{IsLate}
+use Rattle.convoy_orders.specs.AllOrders.{IsHeldUp}
+use Rattle.convoy_orders.specs.ListedOrder.{FewerBehindIsNoLater, RenumberedRunsAgree}
 use Rattle.convoy_orders.specs.Relisted.{RelistedDraftsAreRenumbered, RelistedDraftsGiveScenarios, number_in, relisted}
 use Rattle.convoy_orders.specs.Renumbered.{IsRenumbered}
+use Rattle.convoy_orders.proofs.Orders.{first_of, late_too}
 use Rattle.convoy_orders.proofs.RelistedNames.{all_among, name_kept, number_low}
 use Rattle.convoy_branch.specs.Options.{Settings}
 use Rattle.convoy_best_order.specs.declared.best.Reason.{Reason}
@@ -31,7 +34,8 @@ use Rattle.convoy_best_order.specs.Best.{IsReason, IsRow, excess_of_reason, exce
 use Rattle.convoy_best_order.specs.Excesses.{IsAtMost}
 use Rattle.convoy_best_order.specs.OrderLaws.{BestOrderIsExact, BestOrderKeeps, IsExceededIn, IsKeptIn, NoOrderIsBetter}
 use Rattle.convoy_best_order.specs.Orders.{IsOrder, group_numbers, listed, names_of}
-use Rattle.convoy_best_order.specs.Targets.{MayBeTarget, asked_of}
+use Rattle.convoy_best_order.specs.Targets.{MayBeTarget, asked_at, asked_of}
+use Rattle.convoy_best_order.proofs.Around.{again, may_at, numbers_at, order_at, reason_there, well_at}
 use Rattle.convoy_best_order.proofs.Asking.{late_in, reached_in, reached_least, upper_most, well_asked}
 use Rattle.convoy_best_order.proofs.Relisting.{in_order, is_listed, names_permuted, of_one_draft}
 
@@ -154,79 +158,85 @@ module _ (have : ScenariosHaveDrafts) (given : DraftsGiveScenarios) (give : Reli
   pub well_in : (order : List ℕ) → IsOrder scenario order → IsScenario (in_order scenario order)
   well_in order is = given (relisted (names_of scenario order) (draft_for scenario)) (in_order scenario order) (is_listed have give scenario order well is)
 
-module _ (have : ScenariosHaveDrafts) (given : DraftsGiveScenarios) (give : RelistedDraftsGiveScenarios) (renumbered : RelistedDraftsAreRenumbered)
-    (settings : Settings) (scenario : Scenario) (targets : List Target) (well : IsScenario scenario)
-    (may : (target : Target) → Contains targets target → MayBeTarget scenario target) where
-  held_up : (groups : List ℕ) (reason : Reason) → IsReason settings scenario targets groups reason →
-      IsHeldUp scenario groups reason.target.message (group_of reason) reason.spread.least
-  held_up groups reason is =
-      let may_be = may reason.target is.of_target in
-      let made = is_listed have give (asked_of scenario reason.target) reason.order.items (well_asked scenario reason.target well may_be) is.is in
-      let instance : is.found.instance ≡ in_order (asked_of scenario reason.target) reason.order.items = same_made (listed (asked_of scenario reason.target) reason.order.items) _ _ is.found.made made in
-      record {
-        renumber = number_in (names_of scenario reason.order.items) scenario.groups;
-        back = number_in scenario.groups (names_of scenario reason.order.items);
-        listed = in_order scenario reason.order.items;
-        well = well_in have given give renumbered scenario well reason.order.items is.is;
-        is = same_in have given give renumbered scenario well reason.order.items is.is;
-        goes = may_be.addressed;
-        behind = λ h goes later.
-            behind_among scenario reason.order.items is.is (same_in have given give renumbered scenario well reason.order.items is.is) is.ahead is.behind groups (group_of reason) h is.split is.among
-            (group_known scenario well reason.target.message h goes) later;
-        run = late_in have give renumbered scenario reason.order.items reason.target well may_be is.is reason.spread.least reason.spread.least (omega arith)
-            (subst (λ (s : Scenario). IsReached s reason.spread.least) instance (reached_least settings is.found.instance reason.spread is.found.found));
-      }
+-- the target of a reason is so late in the order of the reason
+held_up : ScenariosHaveDrafts → DraftsGiveScenarios → RelistedDraftsGiveScenarios → RelistedDraftsAreRenumbered →
+    (settings : Settings) (scenario : Scenario) (targets : List Target) (groups : List ℕ) (reason : Reason) → IsScenario scenario → MayBeTarget scenario reason.target →
+    IsReason settings None scenario targets groups reason → IsHeldUp scenario groups reason.target.message (group_of reason) reason.spread.least
+held_up have given give renumbered settings scenario targets groups reason well may_be is =
+    let made = is_listed have give (asked_of scenario reason.target) reason.order.items (well_asked scenario reason.target well may_be) is.is in
+    let instance : is.found.instance ≡ in_order (asked_of scenario reason.target) reason.order.items = same_made (listed (asked_of scenario reason.target) reason.order.items) _ _ is.found.made made in
+    record {
+      renumber = number_in (names_of scenario reason.order.items) scenario.groups;
+      back = number_in scenario.groups (names_of scenario reason.order.items);
+      listed = in_order scenario reason.order.items;
+      well = well_in have given give renumbered scenario well reason.order.items is.is;
+      is = same_in have given give renumbered scenario well reason.order.items is.is;
+      goes = may_be.addressed;
+      behind = λ h goes later.
+          behind_among scenario reason.order.items is.is (same_in have given give renumbered scenario well reason.order.items is.is) is.ahead is.behind groups (group_of reason) h is.split is.among
+          (group_known scenario well reason.target.message h goes) later;
+      run = late_in have give renumbered scenario reason.order.items reason.target well may_be is.is reason.spread.least reason.spread.least (omega arith)
+          (subst (λ (s : Scenario). IsReached s reason.spread.least) instance (reached_least settings is.found.instance reason.spread is.found.found));
+    }
 
-  exceeded_by : (order : List ℕ) → IsOrder scenario order → (reason : Reason) (least : Excess) → Contains targets reason.target
-      → IsLate (in_order scenario order) reason.target.message (number_in (names_of scenario order) scenario.groups (group_of reason)) reason.spread.least
-      → IsAtMost least (excess_of_reason reason) → IsExceededIn scenario targets order least
-  exceeded_by order is reason least of_target late at_most =
-      let may_be = may reason.target of_target in
-      let past = reached_in have give renumbered scenario order reason.target well may_be is reason.spread.least late in
+-- the reason for that one of the groups which is listed first
+module _ (have : ScenariosHaveDrafts) (given : DraftsGiveScenarios) (give : RelistedDraftsGiveScenarios) (renumbered : RelistedDraftsAreRenumbered)
+    (formed : AroundIsScenario) (agree : RenumberedRunsAgree) (later : FewerBehindIsNoLater)
+    (settings : Settings) (span : Option ℕ) (short : IfSome span (λ n. IsTrue (is_span n))) (scenario : Scenario) (targets : List Target) (well : IsScenario scenario)
+    (may : (target : Target) → Contains targets target → MayBeTarget scenario target) (order : List ℕ) (is : IsOrder scenario order) where
+  exceeded_by : (groups : List ℕ) (reason : Reason) (least : Excess) → IsReason settings span scenario targets groups reason
+      → ((h : ℕ) → Contains groups h → number_in (names_of scenario order) scenario.groups (group_of reason) ≤ number_in (names_of scenario order) scenario.groups h)
+      → IsAtMost least (excess_of_reason reason) → IsExceededIn span scenario targets order least
+  exceeded_by groups reason least told first at_most =
+      let target : Target = reason.target in
+      let base : Scenario = asked_at span scenario target in
+      let may_be = may target told.of_target in
+      let well_base = well_at formed span short scenario target well may_be in
+      let may_base = may_at formed span short scenario target well may_be in
+      let is_base = order_at span scenario target order is in
+      let held = held_up have given give renumbered settings base targets groups reason well_base may_base
+      (reason_there settings span scenario targets groups reason told) in
+      let late = late_too agree later (number_in (names_of base order) base.groups) (number_in base.groups (names_of base order)) base (in_order base order) well_base
+      (well_in have given give renumbered base well_base order is_base) (same_in have given give renumbered base well_base order is_base)
+      groups target.message target.group reason.spread.least
+      (λ h among. subst (λ (number : ℕ → ℕ). number target.group ≤ number h) (sym (numbers_at span scenario target order)) (first h among)) held in
+      let past = reached_in have give renumbered base order target well_base may_base is_base reason.spread.least late in
       let low = past.2 in
       record {
-        target = reason.target;
-        of_target = of_target;
-        instance = in_order (asked_of scenario reason.target) order;
-        made = is_listed have give (asked_of scenario reason.target) order (well_asked scenario reason.target well may_be) is;
+        target = target;
+        of_target = told.of_target;
+        instance = in_order (asked_of base target) order;
+        made = subst (λ (s : Scenario). listed s order ≡ Ok (in_order (asked_of base target) order)) (again span scenario target)
+            (is_listed have give (asked_of base target) order (well_asked base target well_base may_base) is_base);
         latency = past.0;
         reached = past.1;
         exceeds = omega (arith, at_most, low);
       }
 
-pub no_better : ScenariosHaveDrafts → DraftsGiveScenarios → RelistedDraftsGiveScenarios → RelistedDraftsAreRenumbered → NoOrderIsBelow → NoOrderIsBetter
-no_better have given give renumbered below settings scenario targets best order well may is other_is = by_reasons best.reasons.items refl where
-  by_reasons : (reasons : List Reason) → best.reasons.items ≡ reasons → IsExceededIn scenario targets order best.least
+pub no_better : ScenariosHaveDrafts → DraftsGiveScenarios → RelistedDraftsGiveScenarios → RelistedDraftsAreRenumbered
+    → AroundIsScenario → RenumberedRunsAgree → FewerBehindIsNoLater → NoOrderIsBetter
+no_better have given give renumbered formed agree later settings span scenario targets best order well may short is other_is = by_reasons best.reasons.items refl where
+  by_reasons : (reasons : List Reason) → best.reasons.items ≡ reasons → IsExceededIn span scenario targets order best.least
   by_reasons [] e = absurd (let some = is.reasons.some in let none = ap length e in omega (arith, some, none))
   by_reasons (first ∷ rest) e =
       let reasons : List Reason = best.reasons.items in
       let groups : List ℕ = groups_of reasons in
-      let chosen : ℕ → Reason = λ g. pick reasons first g in
       let number : ℕ → ℕ = number_in (names_of scenario order) scenario.groups in
-      let late = below number (number_in scenario.groups (names_of scenario order)) scenario (in_order scenario order) groups
-      (λ g. (chosen g).target.message) (λ g. (chosen g).spread.least) well
-      (well_in have given give renumbered scenario well order other_is)
-      (same_in have given give renumbered scenario well order other_is)
-      (subst (λ n. 0 < n) (sym (length-map reasons group_of)) is.reasons.some)
-      (λ g among.
-      let found = pick_is reasons first g (in_of_contains g groups among) in
-      subst (λ h. IsHeldUp scenario groups (chosen g).target.message h (chosen g).spread.least) found.0
-      (held_up have given give renumbered settings scenario targets well may groups (chosen g)
-      (all-in (IsReason settings scenario targets groups) (chosen g) reasons is.reasons.all found.1))) in
-      let found = pick_is reasons first late.0 (in_of_contains late.0 groups late.1) in
-      let reason : Reason = chosen late.0 in
-      exceeded_by have given give renumbered settings scenario targets well may order other_is reason best.least
-      (all-in (IsReason settings scenario targets groups) reason reasons is.reasons.all found.1).of_target
-      (subst (λ h. IsLate (in_order scenario order) reason.target.message (number h) reason.spread.least) (sym found.0) late.2)
+      let one = first_of number groups (subst (λ n. 0 < n) (sym (length-map reasons group_of)) is.reasons.some) in
+      let found = pick_is reasons first one.0 one.1 in
+      let reason : Reason = pick reasons first one.0 in
+      exceeded_by have given give renumbered formed agree later settings span short scenario targets well may order other_is groups reason best.least
+      (all-in (IsReason settings span scenario targets groups) reason reasons is.reasons.all found.1)
+      (λ h among. subst (λ g. number g ≤ number h) (sym found.0) (one.2 h (in_of_contains h groups among)))
       (all-in (IsAtMost best.least) (excess_of_reason reason) (map excess_of_reason reasons) is.least.none_less (in-map excess_of_reason reason reasons found.1))
 
 pub best_keeps : BestOrderKeeps
-best_keeps settings scenario targets best target is of_target =
+best_keeps settings span scenario targets best target is of_target =
     let rows : List Row = best.rows.items in
     let found = in_of_map target_of target rows (subst (IsIn target) (sym is.rows.of_targets) (in_of_contains target targets of_target)) in
     let row : Row = found.0 in
-    let told = all-in (IsRow settings scenario best.order.items) row rows is.rows.all found.1 in
-    subst (IsKeptIn scenario best.order.items best.most) found.2
+    let told = all-in (IsRow settings span scenario best.order.items) row rows is.rows.all found.1 in
+    subst (IsKeptIn span scenario best.order.items best.most) found.2
     (record {
       instance = told.after.instance;
       made = told.after.made;
@@ -236,9 +246,9 @@ best_keeps settings scenario targets best target is of_target =
     })
 
 -- ---- THE ORDER THAT IS TOLD
-exceeded_less : (scenario : Scenario) (targets : List Target) (order : List ℕ) (least more : Excess) → IsAtMost least more
-    → IsExceededIn scenario targets order more → IsExceededIn scenario targets order least
-exceeded_less scenario targets order least more low is = record {
+exceeded_less : (span : Option ℕ) (scenario : Scenario) (targets : List Target) (order : List ℕ) (least more : Excess) → IsAtMost least more
+    → IsExceededIn span scenario targets order more → IsExceededIn span scenario targets order least
+exceeded_less span scenario targets order least more low is = record {
   target = is.target;
   of_target = is.of_target;
   instance = is.instance;
@@ -249,8 +259,8 @@ exceeded_less scenario targets order least more low is = record {
 }
 
 pub best_is_exact : NoOrderIsBetter → BestOrderIsExact
-best_is_exact better settings scenario targets best order well may is other_is =
+best_is_exact better settings span scenario targets best order well may short is other_is =
     elim is.exact [
-      | inl low ↦ inl (exceeded_less scenario targets order best.most best.least low (better settings scenario targets best order well may is other_is))
+      | inl low ↦ inl (exceeded_less span scenario targets order best.most best.least low (better settings span scenario targets best order well may short is other_is))
       | inr may_open ↦ inr may_open
     ]

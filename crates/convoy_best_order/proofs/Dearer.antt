@@ -74,26 +74,26 @@ module _ (open_search : Type 0) (target : Target) (spread : Spread) where
             (at_most_of (least_excess d.target d.spread) (least_excess target spread) is))
             (λ _. old)
 
-pub dearer_is : (settings : Settings) (scenario : Scenario) (targets : List Target) (order : List ℕ) (g : ℕ) (dearest : Option Dearest) (target : Target) (spread : Spread)
-    → IsOrder scenario order → IfSome dearest (IsDearest settings scenario targets order g) → Contains targets target → target.group ≡ g
-    → IsSpreadIn settings scenario order target spread → IsDearest settings scenario targets order g (dearer dearest target spread)
-dearer_is settings scenario targets order g dearest target spread is so_far among at found =
-    let all = dearer_has (λ t s. Contains targets t × (t.group ≡ g) × IsSpreadIn settings scenario order t s) dearest target spread
+pub dearer_is : (settings : Settings) (span : Option ℕ) (scenario : Scenario) (targets : List Target) (order : List ℕ) (g : ℕ) (dearest : Option Dearest) (target : Target) (spread : Spread)
+    → IsOrder scenario order → IfSome dearest (IsDearest settings span scenario targets order g) → Contains targets target → target.group ≡ g
+    → IsSpreadIn settings span scenario order target spread → IsDearest settings span scenario targets order g (dearer dearest target spread)
+dearer_is settings span scenario targets order g dearest target spread is so_far among at found =
+    let all = dearer_has (λ t s. Contains targets t × (t.group ≡ g) × IsSpreadIn settings span scenario order t s) dearest target spread
     (known dearest so_far) (among, at, found) in
     record {
       of_target = all.0;
       at = all.1;
       found = all.2;
-      exact = dearer_exact (MayStayOpen settings scenario targets) target spread dearest (exact dearest so_far)
-          (exact_or_open settings scenario targets order target spread among is found);
+      exact = dearer_exact (MayStayOpen settings span scenario targets) target spread dearest (exact dearest so_far)
+          (exact_or_open settings span scenario targets order target spread among is found);
     } where
-      known : (dearest : Option Dearest) → IfSome dearest (IsDearest settings scenario targets order g)
-          → IfSome dearest (λ d. Contains targets d.target × (d.target.group ≡ g) × IsSpreadIn settings scenario order d.target d.spread)
+      known : (dearest : Option Dearest) → IfSome dearest (IsDearest settings span scenario targets order g)
+          → IfSome dearest (λ d. Contains targets d.target × (d.target.group ≡ g) × IsSpreadIn settings span scenario order d.target d.spread)
       known None is = tt
       known (Some d) is = (is.of_target, is.at, is.found)
 
-      exact : (dearest : Option Dearest) → IfSome dearest (IsDearest settings scenario targets order g)
-          → IfSome dearest (IsExact (MayStayOpen settings scenario targets))
+      exact : (dearest : Option Dearest) → IfSome dearest (IsDearest settings span scenario targets order g)
+          → IfSome dearest (IsExact (MayStayOpen settings span scenario targets))
       exact None is = tt
       exact (Some d) is = is.exact
 
@@ -107,27 +107,27 @@ dearer_most d target spread = by_test (is_less (least_excess d.target d.spread) 
   by_test true = refl
   by_test false = refl
 
-module _ (scenario : Scenario) (order : List ℕ) (g : ℕ) (targets : List Target) (i : ℕ) (d : Target) (within : i < length targets) where
+module _ (span : Option ℕ) (scenario : Scenario) (order : List ℕ) (g : ℕ) (targets : List Target) (i : ℕ) (d : Target) (within : i < length targets) where
   abbrev next : Target
   next = get_or targets i d
 
   -- one more target at the group
-  pub dearer_kept : (dearest : Option Dearest) (spread : Spread) → AreKeptBy scenario order g dearest (take i targets)
-      → IsKeptIn scenario order (most_excess next spread) next → AreKept scenario order g (dearer dearest next spread).most (take (i + 1) targets)
+  pub dearer_kept : (dearest : Option Dearest) (spread : Spread) → AreKeptBy span scenario order g dearest (take i targets)
+      → IsKeptIn span scenario order (most_excess next spread) next → AreKept span scenario order g (dearer dearest next spread).most (take (i + 1) targets)
   dearer_kept None spread none new =
-      All-more (λ (t : Target). t.group ≡ g → IsKeptIn scenario order (most_excess next spread) t) targets i d within
+      All-more (λ (t : Target). t.group ≡ g → IsKeptIn span scenario order (most_excess next spread) t) targets i d within
       (λ k e l at. absurd (none k e l at)) (λ at. new)
   dearer_kept (Some dearest) spread kept new =
       let most : Excess = greater dearest.most (most_excess next spread) in
       let high = greater_high dearest.most (most_excess next spread) in
-      subst (λ (m : Excess). AreKept scenario order g m (take (i + 1) targets)) (sym (dearer_most dearest next spread))
-      (All-more (λ (t : Target). t.group ≡ g → IsKeptIn scenario order most t) targets i d within
-      (λ k e l at. kept_more scenario order dearest.most most (get_or (take i targets) k e) high.0 (kept k e l at))
-      (λ at. kept_more scenario order (most_excess next spread) most next high.1 new))
+      subst (λ (m : Excess). AreKept span scenario order g m (take (i + 1) targets)) (sym (dearer_most dearest next spread))
+      (All-more (λ (t : Target). t.group ≡ g → IsKeptIn span scenario order most t) targets i d within
+      (λ k e l at. kept_more span scenario order dearest.most most (get_or (take i targets) k e) high.0 (kept k e l at))
+      (λ at. kept_more span scenario order (most_excess next spread) most next high.1 new))
 
   -- and one more that is at another group
-  pub still_kept : (dearest : Option Dearest) → (next.group ≡ g → ⊥) → AreKeptBy scenario order g dearest (take i targets)
-      → AreKeptBy scenario order g dearest (take (i + 1) targets)
+  pub still_kept : (dearest : Option Dearest) → (next.group ≡ g → ⊥) → AreKeptBy span scenario order g dearest (take i targets)
+      → AreKeptBy span scenario order g dearest (take (i + 1) targets)
   still_kept None apart none = All-more (λ (t : Target). t.group ≡ g → ⊥) targets i d within none apart
   still_kept (Some dearest) apart kept =
-      All-more (λ (t : Target). t.group ≡ g → IsKeptIn scenario order dearest.most t) targets i d within kept (λ at. absurd (apart at))
+      All-more (λ (t : Target). t.group ≡ g → IsKeptIn span scenario order dearest.most t) targets i d within kept (λ at. absurd (apart at))

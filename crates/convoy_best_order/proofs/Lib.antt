@@ -1,6 +1,7 @@
 pub mod Measures
 pub mod Relisting
 pub mod Asking
+pub mod Around
 pub mod Better
 pub mod Behind
 pub mod Kept

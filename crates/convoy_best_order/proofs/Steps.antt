@@ -1,5 +1,5 @@
 -- One group listed after the other.
-use Rattle.std.proofs.Common.{All, ◌≡◌, ℕ, ◌<◌, Bool, true, false, not, List, [], ◌∷◌, ◌++◌, length, get_or, None, IsTrue, inl, sym, refl, ap, subst, ◌∙◌, append_assoc, arith}
+use Rattle.std.proofs.Common.{All, ◌≡◌, ℕ, ◌<◌, Bool, true, false, not, List, [], ◌∷◌, ◌++◌, length, get_or, None, IsTrue, inl, sym, refl, ap, subst, ◌∙◌, append_assoc, arith, Option}
 use Rattle.std.specs.List.{Contains, remove}
 use Rattle.std.specs.List.Sorted.{IsPermutation}
 use Rattle.std.proofs.lemmas.Bool.{eq-eqb}
@@ -70,10 +70,10 @@ some_group (target ∷ targets) scenario well some all =
     (list_any_in (is_at g) target (target ∷ targets) (inl refl) (eq-eqb g g refl)))
 
 -- ---- reasons
-pub is_reason : (settings : Settings) (scenario : Scenario) (targets : List Target) (ahead left : List ℕ) (place : ℕ) (reason : Reason) → place < length left
+pub is_reason : (settings : Settings) (span : Option ℕ) (scenario : Scenario) (targets : List Target) (ahead left : List ℕ) (place : ℕ) (reason : Reason) → place < length left
     → IsOrder scenario (ahead ++ left) → reason.order.items ≡ with_next ahead left place → group_of reason ≡ get_or left place 0
-    → Contains targets reason.target → IsSpreadIn settings scenario reason.order.items reason.target reason.spread → IsReason settings scenario targets left reason
-is_reason settings scenario targets ahead left place reason within is order at of_target found = record {
+    → Contains targets reason.target → IsSpreadIn settings span scenario reason.order.items reason.target reason.spread → IsReason settings span scenario targets left reason
+is_reason settings span scenario targets ahead left place reason within is order at of_target found = record {
   of_target = of_target;
   ahead = ahead;
   behind = remove left place;
@@ -83,11 +83,11 @@ is_reason settings scenario targets ahead left place reason within is order at o
   found = found;
 }
 
-pub are_reasons : (settings : Settings) (scenario : Scenario) (targets : List Target) (left : List ℕ) (reasons : List Reason) → 0 < length reasons
-    → groups_of reasons ≡ left → All (IsReason settings scenario targets left) reasons → AreReasons settings scenario targets reasons
-are_reasons settings scenario targets left reasons some is all = record {
+pub are_reasons : (settings : Settings) (span : Option ℕ) (scenario : Scenario) (targets : List Target) (left : List ℕ) (reasons : List Reason) → 0 < length reasons
+    → groups_of reasons ≡ left → All (IsReason settings span scenario targets left) reasons → AreReasons settings span scenario targets reasons
+are_reasons settings span scenario targets left reasons some is all = record {
   some = some;
-  all = subst (λ gs. All (IsReason settings scenario targets gs) reasons) (sym is) all;
+  all = subst (λ gs. All (IsReason settings span scenario targets gs) reasons) (sym is) all;
 }
 
 pub as_many : (left : List ℕ) (reasons : List Reason) → groups_of reasons ≡ left → length reasons ≡ length left

@@ -35,20 +35,20 @@ dearer (Some dearest) target spread =
     else record { target = dearest.target; spread = dearest.spread; most = greater dearest.most (most_excess target spread) }
 
 -- It is one of these targets, at this group, and so late with the groups in that order. It exceeds its limit at least by as much as is told at most, unless some search may stay open.
-pub record IsDearest (settings : Settings) (scenario : Scenario) (targets : List Target) (order : List ℕ) (g : ℕ) (dearest : Dearest) : Type 0 where
+pub record IsDearest (settings : Settings) (span : Option ℕ) (scenario : Scenario) (targets : List Target) (order : List ℕ) (g : ℕ) (dearest : Dearest) : Type 0 where
   pub of_target : Contains targets dearest.target
   pub at : dearest.target.group ≡ g
-  pub found : IsSpreadIn settings scenario order dearest.target dearest.spread
-  pub exact : IsAtMost dearest.most (least_excess dearest.target dearest.spread) ⊎ MayStayOpen settings scenario targets
+  pub found : IsSpreadIn settings span scenario order dearest.target dearest.spread
+  pub exact : IsAtMost dearest.most (least_excess dearest.target dearest.spread) ⊎ MayStayOpen settings span scenario targets
 
 -- each of these targets that is at this group keeps that with the groups in that order
-abbrev pub AreKept : Scenario → List ℕ → ℕ → Excess → List Target → Type 0
-AreKept scenario order g most targets = All (λ target. target.group ≡ g → IsKeptIn scenario order most target) targets
+abbrev pub AreKept : Option ℕ → Scenario → List ℕ → ℕ → Excess → List Target → Type 0
+AreKept span scenario order g most targets = All (λ target. target.group ≡ g → IsKeptIn span scenario order most target) targets
 
 -- each of them keeps the most of the dearest; where there is no dearest none of them is at the group
-abbrev pub AreKeptBy : Scenario → List ℕ → ℕ → Option Dearest → List Target → Type 0
-AreKeptBy scenario order g None targets = All (λ target. target.group ≡ g → ⊥) targets
-AreKeptBy scenario order g (Some dearest) targets = AreKept scenario order g dearest.most targets
+abbrev pub AreKeptBy : Option ℕ → Scenario → List ℕ → ℕ → Option Dearest → List Target → Type 0
+AreKeptBy span scenario order g None targets = All (λ target. target.group ≡ g → ⊥) targets
+AreKeptBy span scenario order g (Some dearest) targets = AreKept span scenario order g dearest.most targets
 
 -- what reasons cost
 abbrev pub costs_of : List Reason → List Excess
@@ -64,26 +64,26 @@ pub record IsCheapest (costs : List Excess) (count place : ℕ) : Type 0 where
   pub first : (other : ℕ) → other < place → IsLess (cost_at costs place) (cost_at costs other)
 
 -- where one of the groups that are left is listed next, each target at it keeps what that costs
-abbrev pub AreCosts : Scenario → List Target → List ℕ → List ℕ → List Excess → Type 0
-AreCosts scenario targets ahead left costs =
+abbrev pub AreCosts : Option ℕ → Scenario → List Target → List ℕ → List ℕ → List Excess → Type 0
+AreCosts span scenario targets ahead left costs =
     (place : ℕ) → place < length left
-    → AreKept scenario (with_next ahead left place) (slice_index_or left place 0) (cost_at costs place) targets
+    → AreKept span scenario (with_next ahead left place) (slice_index_or left place 0) (cost_at costs place) targets
 
 -- The target of the reason exceeds its limit at least by as much as its group costs, unless some search may stay open.
-abbrev pub IsDear : Settings → Scenario → List Target → Reason → Type 0
-IsDear settings scenario targets reason = IsAtMost reason.cost (excess_of_reason reason) ⊎ MayStayOpen settings scenario targets
+abbrev pub IsDear : Settings → Option ℕ → Scenario → List Target → Reason → Type 0
+IsDear settings span scenario targets reason = IsAtMost reason.cost (excess_of_reason reason) ⊎ MayStayOpen settings span scenario targets
 
 -- With the groups in that order the target keeps an excess that is at most that of each of these reasons.
-pub record IsHeldBy (scenario : Scenario) (reasons : List Reason) (order : List ℕ) (target : Target) : Type 0 where
+pub record IsHeldBy (span : Option ℕ) (scenario : Scenario) (reasons : List Reason) (order : List ℕ) (target : Target) : Type 0 where
   pub excess : Excess
-  pub kept : IsKeptIn scenario order excess target
+  pub kept : IsKeptIn span scenario order excess target
   pub within : All (IsAtMost excess) (map excess_of_reason reasons)
 
 -- Each of these targets of which the group stands ahead does so, unless some search may stay open.
-abbrev pub AreHeldBy : Settings → Scenario → List Target → List Reason → List ℕ → List ℕ → Type 0
-AreHeldBy settings scenario targets reasons ahead left =
-    All (λ target. Contains ahead target.group → IsHeldBy scenario reasons (ahead ++ left) target) targets
-    ⊎ MayStayOpen settings scenario targets
+abbrev pub AreHeldBy : Settings → Option ℕ → Scenario → List Target → List Reason → List ℕ → List ℕ → Type 0
+AreHeldBy settings span scenario targets reasons ahead left =
+    All (λ target. Contains ahead target.group → IsHeldBy span scenario reasons (ahead ++ left) target) targets
+    ⊎ MayStayOpen settings span scenario targets
 
 -- what is at most the excess of each of the one reasons is at most that of each of the others
 abbrev pub AreNoWeaker : List Reason → List Reason → Type 0

@@ -1,5 +1,5 @@
 -- How late a target is with the groups in some order, as `latency` finds it.
-use Rattle.std.specs.Prelude.{◌≡◌, ℕ, ◌<◌, List, Some, Ok, Contains}
+use Rattle.std.specs.Prelude.{◌≡◌, ℕ, ◌<◌, List, Option, Some, Ok, Contains}
 use Rattle.convoy_scenario.specs.Scenario.{Scenario}
 use Rattle.convoy_branch.specs.Options.{Settings}
 use Rattle.convoy_survey.specs.declared.finding.Finding.{Finding}
@@ -8,7 +8,7 @@ use Rattle.convoy_best_order.specs.declared.excess.Excess.{Excess}
 use Rattle.convoy_best_order.specs.declared.spread.Spread.{Spread}
 use Rattle.convoy_best_order.specs.declared.target.Target.{Target}
 use Rattle.convoy_best_order.specs.Orders.{IsOrder, listed}
-use Rattle.convoy_best_order.specs.Targets.{asked_of, limit_of}
+use Rattle.convoy_best_order.specs.Targets.{asked_at, limit_of}
 
 -- A search with these settings found that the greatest latency of the scenario is from the least to the most.
 pub record IsSpread (settings : Settings) (scenario : Scenario) (spread : Spread) : Type 0 where
@@ -17,20 +17,20 @@ pub record IsSpread (settings : Settings) (scenario : Scenario) (spread : Spread
   pub least : least_of finding ≡ Some spread.least
   pub most : most_of finding ≡ Some spread.most
 
--- It found so of the target where the scenario's groups are listed in that order.
-pub record IsSpreadIn (settings : Settings) (scenario : Scenario) (order : List ℕ) (target : Target) (spread : Spread) : Type 0 where
+-- It found so of the target, or around it where a span is given, where the scenario's groups are listed in that order.
+pub record IsSpreadIn (settings : Settings) (span : Option ℕ) (scenario : Scenario) (order : List ℕ) (target : Target) (spread : Spread) : Type 0 where
   pub instance : Scenario
-  pub made : listed (asked_of scenario target) order ≡ Ok instance
+  pub made : listed (asked_at span scenario target) order ≡ Ok instance
   pub found : IsSpread settings instance spread
 
 -- For one of these targets, with the groups in some order, a search with these settings may stay open: what it finds at least may be below what it finds at most.
-pub record MayStayOpen (settings : Settings) (scenario : Scenario) (targets : List Target) : Type 0 where
+pub record MayStayOpen (settings : Settings) (span : Option ℕ) (scenario : Scenario) (targets : List Target) : Type 0 where
   pub target : Target
   pub of_target : Contains targets target
   pub order : List ℕ
   pub is : IsOrder scenario order
   pub spread : Spread
-  pub found : IsSpreadIn settings scenario order target spread
+  pub found : IsSpreadIn settings span scenario order target spread
   pub is_open : spread.least < spread.most
 
 -- by how much the latency of the target exceeds its limit at least, and at most

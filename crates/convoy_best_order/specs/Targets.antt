@@ -4,6 +4,7 @@ use Rattle.std.specs.List.{flat_map, list_any}
 use Rattle.convoy_scenario.specs.Scenario.{Scenario, message_at, message_numbers}
 use Rattle.convoy_scenario.specs.Targets.{may_be_target, with_target}
 use Rattle.convoy_commands.specs.Verdicts.{deadline_at}
+use Rattle.convoy_survey.specs.Findings.{scenario_at}
 use Rattle.convoy_survey.specs.Surveys.{IsTarget}
 use Rattle.convoy_best_order.specs.declared.target.Target.{Target}
 use Rattle.convoy_best_order.specs.declared.wanted.Wanted.{Wanted}
@@ -49,6 +50,10 @@ MayBeTarget scenario target = IsTarget scenario target.message target.group
 -- the scenario in which its latency is asked
 abbrev pub asked_of : Scenario → Target → Scenario
 asked_of scenario target = with_target scenario target.message target.group
+
+-- the same, or where all is asked around it by so long a span, the scenario around it
+abbrev pub asked_at : Option ℕ → Scenario → Target → Scenario
+asked_at span scenario target = scenario_at span scenario target.message target.group
 
 -- what its latency is limited to: its deadline, or else nothing
 abbrev pub limit_of : Target → ℕ

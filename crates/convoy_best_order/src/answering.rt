@@ -16,7 +16,7 @@ use convoy_branch::Options;
 use convoy_commands::{Answer, Done, Fault, Watch};
 use convoy_packets::{Instance, Schedule};
 use convoy_scenario::Scenario;
-use convoy_survey::{is_beyond, is_open_by, verdict_at};
+use convoy_survey::{is_beyond, is_open_by, span_of, verdict_at, with_rows};
 use convoy_tables::Format;
 use convoy_times::Measure;
 use convoy_toml::{Asked, read_toml_asked};
@@ -26,13 +26,14 @@ use std::sync::Wait;
 use std::thread::Threads;
 
 /// The best order of the groups of the scenario of a text ([`best_order`]): the order with the least greatest excess of
-/// latency over deadline, of the targets that are wanted ([`targets_of`](crate::targets_of)); where one of them has a
-/// deadline only those that have one count. What is written is a line with the order, in text, and a table: a row for
-/// each target, those that count first, with what its latency is at least and at most with the groups as they are listed
-/// and in that order; one for all that count together; and, where they are asked for, one for each reason why no order is
-/// better. Numbers are in ticks, and where times are told ([`Times::of`](convoy_survey::Times::of)) in the unit that the
-/// options ask for or else the text writes, too. As many searches are made at a time as there are watches, and each is
-/// watched by one of them, by [`NoGate`](convoy_branch::NoGate) where nobody watches.
+/// latency over deadline, of the targets that are wanted ([`targets_of`](crate::targets_of)), each around itself where
+/// all is asked so ([`span_of`]); where one of them has a deadline only those that have one count. What is written is a
+/// line with the order, in text, and a table: a row for each target, those that count first, with what its latency is
+/// at least and at most with the groups as they are listed and in that order; one for all that count together; and,
+/// where they are asked for, one for each reason why no order is better. Numbers are in ticks, and where times are told
+/// ([`Times::of`](convoy_survey::Times::of)) in the unit that the options ask for or else the text writes, too. As many
+/// searches are made at a time as there are watches, and each is watched by one of them, by
+/// [`NoGate`](convoy_branch::NoGate) where nobody watches.
 ///
 /// It ends as `Done::Beyond` where a deadline is missed in the best order; else as `Done::Open` where it is not known
 /// whether one is kept, or where there is none and it is not known whether the order is the best.
@@ -56,11 +57,13 @@ pub fn order_answer<R: Threads + Wait + Sync, W: Watch + Sync>(
     let scenario = input.scenario;
     // A scenario is well formed.
     let _count = scenario.message_count();
-    let targets = targets_of(alloc, wanted, &input.deadlines, &scenario)?;
+    let span = span_of(asked, text, &scenario);
+    let base = with_rows(alloc, span, &scenario)?;
+    let targets = targets_of(alloc, wanted, &input.deadlines, &base)?;
     let counting = counted(alloc, &targets)?;
     let rest = uncounted(alloc, &targets)?;
-    let best = best_order(rt, alloc, &scenario, &counting, options, watches)?;
-    let others = rows_of(rt, alloc, &scenario, &rest, &best.order, options, watches)?;
+    let best = best_order(rt, alloc, span, &base, &counting, options, watches)?;
+    let others = rows_of(rt, alloc, span, &base, &rest, &best.order, options, watches)?;
     let measure = Measure::of(&scenario, options.unit(), input.unit);
     let text = order_text(
         alloc,
@@ -76,9 +79,10 @@ pub fn order_answer<R: Threads + Wait + Sync, W: Watch + Sync>(
     Ok(Answer::about(done, text, scenario, input.plain))
 }
 
-/// The scenario of a text with its groups in the best order, as a text that reads as it: what [`order_answer`] tells as a
-/// table. All its times are numbers of ticks, it gives the schedule of least delays, and of deadlines it says nothing, as
-/// no scenario does. It ends as `order_answer` does, and has its faults.
+/// The scenario of a text with its groups in the best order, as a text that reads as it: what [`order_answer`] tells as
+/// a table; where all is asked around targets, the one around its own target. All its times are numbers of ticks, it
+/// gives the schedule of least delays, and of deadlines it says nothing, as no scenario does. It ends as `order_answer`
+/// does, and has its faults.
 pub fn listing_answer<R: Threads + Wait + Sync, W: Watch + Sync>(
     rt: &R,
     alloc: Global,
@@ -95,9 +99,11 @@ pub fn listing_answer<R: Threads + Wait + Sync, W: Watch + Sync>(
     let scenario = input.scenario;
     // A scenario is well formed.
     let _count = scenario.message_count();
-    let targets = targets_of(alloc, wanted, &input.deadlines, &scenario)?;
+    let span = span_of(asked, text, &scenario);
+    let base = with_rows(alloc, span, &scenario)?;
+    let targets = targets_of(alloc, wanted, &input.deadlines, &base)?;
     let counting = counted(alloc, &targets)?;
-    let best = best_order(rt, alloc, &scenario, &counting, options, watches)?;
+    let best = best_order(rt, alloc, span, &base, &counting, options, watches)?;
     let other = listed(alloc, &scenario, &best.order)?;
     let text = listing_text(alloc, other)?;
     let done = end_of(are_judged(&targets), &best);

@@ -3,7 +3,10 @@
 
 ghost use Rattle.convoy_best_order.specs.OrderLaws.{BestOrderIsExact, BestOrderKeeps, NoOrderIsBetter, OrderBehindIsFree};
 
-use convoy_orders::order_laws::{fewer_behind_is_no_slower, no_order_is_below};
+use convoy_around::around_laws::around_is_scenario;
+use convoy_orders::order_laws::{
+    fewer_behind_is_no_later, fewer_behind_is_no_slower, renumbered_runs_agree,
+};
 use convoy_orders::relisted_laws::{
     relisted_drafts_are_renumbered, relisted_drafts_give_scenarios,
 };
@@ -18,7 +21,9 @@ pub fn no_order_is_better()
     drafts_give_scenarios();
     relisted_drafts_give_scenarios();
     relisted_drafts_are_renumbered();
-    no_order_is_below();
+    around_is_scenario();
+    renumbered_runs_agree();
+    fewer_behind_is_no_later();
 }
 
 /// In the order that is told no schedule of any target exceeds its limit by more than the most that is told.
@@ -43,5 +48,6 @@ pub fn order_behind_is_free()
     drafts_give_scenarios();
     relisted_drafts_give_scenarios();
     relisted_drafts_are_renumbered();
+    around_is_scenario();
     fewer_behind_is_no_slower();
 }

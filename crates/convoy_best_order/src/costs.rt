@@ -1,6 +1,7 @@
 //! What it costs to list a group next.
 
 ghost use Rattle.std.specs.Prelude.{◌≡◌, ◌+◌, ◌<◌, ◌||◌, IsTrue, All, length, take, slice_get, Some, is_some, IfOk, IfSome};
+ghost use Rattle.convoy_around.specs.Around.{is_span};
 ghost use Rattle.convoy_best_order.specs.Choices.{AreKept, AreKeptBy, IsDearest, dearer};
 ghost use Rattle.convoy_best_order.specs.Orders.{IsOrder};
 ghost use Rattle.convoy_best_order.specs.declared.target.Target.{Target};
@@ -29,6 +30,7 @@ pub(crate) struct Dearest {
 pub(crate) fn dearest_at<R: Threads + Wait + Sync, W: Watch + Sync>(
     rt: &R,
     alloc: Global,
+    span: Option<u32>,
     scenario: &Scenario,
     targets: &[Target],
     group: usize,
@@ -37,13 +39,16 @@ pub(crate) fn dearest_at<R: Threads + Wait + Sync, W: Watch + Sync>(
     watch: &W,
 ) -> Result<Dearest, AllocError>
     requires lawful { All (MayBeTarget scenario.now) targets.now }
+    requires span { IfSome span (λ n. IsTrue (is_span n)) }
     requires order { IsOrder scenario.now order.now }
     requires some { IsTrue (has_target targets.now group) }
-    ensures dearest { IfOk result (IsDearest options.now scenario.now targets.now order.now group) }
+    ensures dearest { IfOk result (IsDearest options.now span scenario.now targets.now order.now group) }
     ensures kept { IfOk result
-        (λ dearest. AreKept scenario.now order.now group dearest.most targets.now) }
+        (λ dearest. AreKept span scenario.now order.now group dearest.most targets.now) }
 {
-    match dearest_of(rt, alloc, scenario, targets, group, order, options, watch)? {
+    match dearest_of(
+        rt, alloc, span, scenario, targets, group, order, options, watch,
+    )? {
         Some(dearest) => Ok(dearest),
         None => unreachable!(),
     }
@@ -53,6 +58,7 @@ pub(crate) fn dearest_at<R: Threads + Wait + Sync, W: Watch + Sync>(
 fn dearest_of<R: Threads + Wait + Sync, W: Watch + Sync>(
     rt: &R,
     alloc: Global,
+    span: Option<u32>,
     scenario: &Scenario,
     targets: &[Target],
     group: usize,
@@ -61,16 +67,17 @@ fn dearest_of<R: Threads + Wait + Sync, W: Watch + Sync>(
     watch: &W,
 ) -> Result<Option<Dearest>, AllocError>
     requires lawful { All (MayBeTarget scenario.now) targets.now }
+    requires span { IfSome span (λ n. IsTrue (is_span n)) }
     requires order { IsOrder scenario.now order.now }
     ensures some { IfOk result (λ dearest. is_some dearest ≡ has_target targets.now group) }
     ensures dearest { IfOk result
-        (λ dearest. IfSome dearest (IsDearest options.now scenario.now targets.now order.now group)) }
-    ensures kept { IfOk result (λ dearest. AreKeptBy scenario.now order.now group dearest targets.now) }
+        (λ dearest. IfSome dearest (IsDearest options.now span scenario.now targets.now order.now group)) }
+    ensures kept { IfOk result (λ dearest. AreKeptBy span scenario.now order.now group dearest targets.now) }
 {
     let mut dearest = None;
     for place in 0..targets.len() {
         dearest = dearest_with(
-            rt, alloc, scenario, targets, group, order, dearest, place, options, watch,
+            rt, alloc, span, scenario, targets, group, order, dearest, place, options, watch,
         )?;
     }
     Ok(dearest)
@@ -80,6 +87,7 @@ fn dearest_of<R: Threads + Wait + Sync, W: Watch + Sync>(
 fn dearest_with<R: Threads + Wait + Sync, W: Watch + Sync>(
     rt: &R,
     alloc: Global,
+    span: Option<u32>,
     scenario: &Scenario,
     targets: &[Target],
     group: usize,
@@ -90,22 +98,23 @@ fn dearest_with<R: Threads + Wait + Sync, W: Watch + Sync>(
     watch: &W,
 ) -> Result<Option<Dearest>, AllocError>
     requires lawful { All (MayBeTarget scenario.now) targets.now }
+    requires span { IfSome span (λ n. IsTrue (is_span n)) }
     requires order { IsOrder scenario.now order.now }
     requires known { place < length targets.now }
-    requires dearest { IfSome dearest (IsDearest options.now scenario.now targets.now order.now group) }
-    requires kept { AreKeptBy scenario.now order.now group dearest (take place targets.now) }
+    requires dearest { IfSome dearest (IsDearest options.now span scenario.now targets.now order.now group) }
+    requires kept { AreKeptBy span scenario.now order.now group dearest (take place targets.now) }
     ensures some { IfOk result (λ next. (target : Target) → slice_get targets.now place ≡ Some target
         → is_some next ≡ (is_some dearest || is_at group target)) }
     ensures dearest { IfOk result
-        (λ next. IfSome next (IsDearest options.now scenario.now targets.now order.now group)) }
+        (λ next. IfSome next (IsDearest options.now span scenario.now targets.now order.now group)) }
     ensures kept { IfOk result
-        (λ next. AreKeptBy scenario.now order.now group next (take (place + 1) targets.now)) }
+        (λ next. AreKeptBy span scenario.now order.now group next (take (place + 1) targets.now)) }
 {
     let target = targets[place];
     if target.group != group {
         return Ok(dearest);
     }
-    let spread = spread_in(rt, alloc, scenario, order, target, options, watch)?;
+    let spread = spread_in(rt, alloc, span, scenario, order, target, options, watch)?;
     Ok(Some(dearer(dearest, target, spread)))
 }
 

@@ -1,7 +1,8 @@
 //! What each of the groups that are left costs where it is listed next.
 
-ghost use Rattle.std.specs.Prelude.{◌≡◌, ◌<◌, ◌++◌, length, IsTrue, All, IfOk};
+ghost use Rattle.std.specs.Prelude.{◌≡◌, ◌<◌, ◌++◌, length, IsTrue, All, IfOk, IfSome};
 ghost use Rattle.std.specs.List.{AllZip, range_with_len};
+ghost use Rattle.convoy_around.specs.Around.{is_span};
 ghost use Rattle.convoy_best_order.specs.Best.{IsReason, groups_of};
 ghost use Rattle.convoy_best_order.specs.Choices.{AreCosts, IsDear, costs_of, with_next};
 ghost use Rattle.convoy_best_order.specs.Each.{MayBeNext, MayBeReason};
@@ -24,6 +25,7 @@ use std::thread::Threads;
 pub(crate) fn reasons_of<R: Threads + Wait + Sync, W: Watch + Sync>(
     rt: &R,
     alloc: Global,
+    span: Option<u32>,
     scenario: &Scenario,
     targets: &[Target],
     ahead: &[usize],
@@ -33,17 +35,20 @@ pub(crate) fn reasons_of<R: Threads + Wait + Sync, W: Watch + Sync>(
 ) -> Result<Vec<Reason>, AllocError>
     requires watched { 0 < length watches.now }
     requires lawful { All (MayBeTarget scenario.now) targets.now }
+    requires span { IfSome span (λ n. IsTrue (is_span n)) }
     requires order { IsOrder scenario.now (ahead.now ++ left.now) }
     requires some { All (λ group. IsTrue (has_target targets.now group)) left.now }
     ensures groups { IfOk result (λ reasons. groups_of reasons.items ≡ left.now) }
     ensures all { IfOk result
-        (λ reasons. All (IsReason options.now scenario.now targets.now left.now) reasons.items) }
+        (λ reasons. All (IsReason options.now span scenario.now targets.now left.now) reasons.items) }
     ensures costs { IfOk result
-        (λ reasons. AreCosts scenario.now targets.now ahead.now left.now (costs_of reasons.items)) }
+        (λ reasons. AreCosts span scenario.now targets.now ahead.now left.now (costs_of reasons.items)) }
     ensures dear { IfOk result
-        (λ reasons. All (IsDear options.now scenario.now targets.now) reasons.items) }
+        (λ reasons. All (IsDear options.now span scenario.now targets.now) reasons.items) }
 {
-    let reasons = each_reason(rt, alloc, scenario, targets, ahead, left, options, watches)?;
+    let reasons = each_reason(
+        rt, alloc, span, scenario, targets, ahead, left, options, watches,
+    )?;
     all_values(alloc, reasons)?
 }
 
@@ -51,6 +56,7 @@ pub(crate) fn reasons_of<R: Threads + Wait + Sync, W: Watch + Sync>(
 fn each_reason<R: Threads + Wait + Sync, W: Watch + Sync>(
     rt: &R,
     alloc: Global,
+    span: Option<u32>,
     scenario: &Scenario,
     targets: &[Target],
     ahead: &[usize],
@@ -60,17 +66,18 @@ fn each_reason<R: Threads + Wait + Sync, W: Watch + Sync>(
 ) -> Result<Vec<Result<Reason, AllocError>>, AllocError>
     requires watched { 0 < length watches.now }
     requires lawful { All (MayBeTarget scenario.now) targets.now }
+    requires span { IfSome span (λ n. IsTrue (is_span n)) }
     requires order { IsOrder scenario.now (ahead.now ++ left.now) }
     requires some { All (λ group. IsTrue (has_target targets.now group)) left.now }
-    ensures { IfOk result (λ reasons. AllZip (MayBeReason options.now scenario.now targets.now ahead.now left.now)
+    ensures { IfOk result (λ reasons. AllZip (MayBeReason options.now span scenario.now targets.now ahead.now left.now)
         (range_with_len 0 (length left.now)) reasons.items) }
 {
     let reason = |place: usize, watch: &W| -> Result<Reason, AllocError>
-        requires { MayBeNext scenario.now targets.now ahead.now left.now × (place < length left.now) }
-        ensures { MayBeReason options.entry.now scenario.entry.now targets.entry.now ahead.entry.now left.entry.now place result }
+        requires { MayBeNext scenario.now targets.now ahead.now left.now × (place < length left.now) × IfSome span (λ n. IsTrue (is_span n)) }
+        ensures { MayBeReason options.entry.now span scenario.entry.now targets.entry.now ahead.entry.now left.entry.now place result }
     {
         reason_for(
-            rt, alloc, scenario, targets, ahead, left, place, options, watch,
+            rt, alloc, span, scenario, targets, ahead, left, place, options, watch,
         )
     };
     let reasons = make_rows(rt, alloc, watches, left.len(), &reason)?;
@@ -81,6 +88,7 @@ fn each_reason<R: Threads + Wait + Sync, W: Watch + Sync>(
 fn reason_for<R: Threads + Wait + Sync, W: Watch + Sync>(
     rt: &R,
     alloc: Global,
+    span: Option<u32>,
     scenario: &Scenario,
     targets: &[Target],
     ahead: &[usize],
@@ -90,12 +98,15 @@ fn reason_for<R: Threads + Wait + Sync, W: Watch + Sync>(
     watch: &W,
 ) -> Result<Reason, AllocError>
     requires next { MayBeNext scenario.now targets.now ahead.now left.now }
+    requires span { IfSome span (λ n. IsTrue (is_span n)) }
     requires known { place < length left.now }
-    ensures { MayBeReason options.now scenario.now targets.now ahead.now left.now place result }
+    ensures { MayBeReason options.now span scenario.now targets.now ahead.now left.now place result }
 {
     let order = with_next(alloc, ahead, left, place)?;
     let group = left[place];
-    let dearest = dearest_at(rt, alloc, scenario, targets, group, &order, options, watch)?;
+    let dearest = dearest_at(
+        rt, alloc, span, scenario, targets, group, &order, options, watch,
+    )?;
     Ok(Reason {
         target: dearest.target,
         order,

@@ -1,6 +1,7 @@
 //! How late a target is.
 
-ghost use Rattle.std.specs.Prelude.{◌≡◌, Some, IfOk};
+ghost use Rattle.std.specs.Prelude.{◌≡◌, Some, IfOk, IfSome, IsTrue};
+ghost use Rattle.convoy_around.specs.Around.{is_span};
 ghost use Rattle.convoy_survey.specs.Findings.{least_of, most_of};
 ghost use Rattle.convoy_best_order.specs.Orders.{IsOrder};
 ghost use Rattle.convoy_best_order.specs.Spreads.{IsSpread, IsSpreadIn};
@@ -13,16 +14,17 @@ use convoy_branch::Options;
 use convoy_commands::Watch;
 use convoy_packets::Instance;
 use convoy_scenario::Scenario;
-use convoy_survey::{Finding, find};
+use convoy_survey::{Finding, find, scenario_at};
 use std::alloc::{AllocError, Global};
 use std::sync::Wait;
 use std::thread::Threads;
 
-/// How late a target is where the groups of a scenario are listed in that order. Fails where memory runs out, and else
-/// never.
+/// How late a target is, around it where a span is given, where the groups of a scenario are listed in that order.
+/// Fails where memory runs out, and else never.
 pub(crate) fn spread_in<R: Threads + Wait + Sync, W: Watch + Sync>(
     rt: &R,
     alloc: Global,
+    span: Option<u32>,
     scenario: &Scenario,
     order: &[usize],
     target: Target,
@@ -30,10 +32,11 @@ pub(crate) fn spread_in<R: Threads + Wait + Sync, W: Watch + Sync>(
     watch: &W,
 ) -> Result<Spread, AllocError>
     requires target { MayBeTarget scenario.now target }
+    requires span { IfSome span (λ n. IsTrue (is_span n)) }
     requires order { IsOrder scenario.now order.now }
-    ensures { IfOk result (IsSpreadIn options.now scenario.now order.now target) }
+    ensures { IfOk result (IsSpreadIn options.now span scenario.now order.now target) }
 {
-    let asked = scenario.with_target(target.message, target.group)?;
+    let asked = scenario_at(alloc, span, scenario, target.message, target.group)?;
     let instance = listed(alloc, &asked, order)?;
     spread(rt, alloc, instance, options, watch)
 }

@@ -1,5 +1,5 @@
 -- The choice of a placement with the best order there, and with the best order that is found there again.
-use Rattle.std.proofs.Common.{All, ◌≡◌, ◌≤◌, ◌⊎◌, ℕ, List, Vec, Ok, inl, inr, refl, sym, subst, ◌∙◌, arith}
+use Rattle.std.proofs.Common.{All, ◌≡◌, ◌≤◌, ◌⊎◌, ℕ, List, Vec, Ok, inl, inr, refl, sym, subst, ◌∙◌, arith, None}
 use Rattle.std.specs.Global.{Global}
 use Rattle.convoy_scenario.specs.Scenario.{Scenario}
 use Rattle.convoy_scenario.specs.WellFormed.{IsScenario}
@@ -38,11 +38,11 @@ between : (least most : Excess) (early late limit : ℕ) → IsAtMost least (rec
 between least most early late limit low later high = omega (arith, low, later, high)
 
 least_kept : NoOrderIsBetter → BestOrderKeeps → (settings used : Settings) (scenario : Scenario) (targets : List Target) (best earlier : Best) → IsScenario scenario
-    → All (MayBeTarget scenario) targets → IsBest settings scenario targets best → IsBest used scenario targets earlier → IsAtMost best.least earlier.most
+    → All (MayBeTarget scenario) targets → IsBest settings None scenario targets best → IsBest used None scenario targets earlier → IsAtMost best.least earlier.most
 least_kept no_better keeps settings used scenario targets best earlier well may is was =
     let past =
-    no_better settings scenario targets best earlier.order.items well (λ target of_target. all-in (MayBeTarget scenario) target targets may (in_of_contains target targets of_target)) is was.order in
-    let kept = keeps used scenario targets earlier past.target was past.of_target in
+    no_better settings None scenario targets best earlier.order.items well (λ target of_target. all-in (MayBeTarget scenario) target targets may (in_of_contains target targets of_target)) tt is was.order in
+    let kept = keeps used None scenario targets earlier past.target was past.of_target in
     let same = same_made (listed (asked_of scenario past.target) earlier.order.items) past.instance kept.instance past.made kept.made in
     between best.least earlier.most past.latency kept.latency _ past.exceeds
     (reached_below past.instance kept.instance past.latency kept.latency same past.reached kept.upper) kept.keeps
@@ -53,21 +53,21 @@ module _ (wanted : Wanted) (plan : Plan) (told : List Planned) (placement : Vec 
   abbrev choice : Planned
   choice = choice_of placement scenario targets best
 
-  choice_is : (used : Settings) → IsBest used scenario targets.items best → IsChoice used wanted plan choice
+  choice_is : (used : Settings) → IsBest used None scenario targets.items best → IsChoice used wanted plan choice
   choice_is used found = record { placement = is; made = made; targets = of_plan; lawful = may; best = found; total = refl }
 
   choice_low : IsNoHigher choice.floor (reach_of choice)
   choice_low = let low = (lesser_both best.least best.most).1 in inr (low, omega arith)
 
   -- where it is open whether some order is better
-  choice_open : (settings : Settings) → IsBest settings scenario targets.items best → IsLess best.least best.most → IsOpenSomewhere settings wanted plan told
+  choice_open : (settings : Settings) → IsBest settings None scenario targets.items best → IsLess best.least best.most → IsOpenSomewhere settings wanted plan told
   choice_open settings found less = record {
     placement = placement.items;
     is = is;
     new = new;
     scenario = scenario;
     made = made;
-    may_be = subst (MayStayOpen settings scenario) of_plan
+    may_be = subst (MayStayOpen settings None scenario) of_plan
         (elim found.exact [ inl low ↦ absurd (omega (arith, less, low)) | inr may_be ↦ may_be ]);
   }
 
@@ -90,13 +90,13 @@ module _ (wanted : Wanted) (plan : Plan) (told : List Planned) (placement : Vec 
       (subst (λ (ts : List Target). IsExceeded scenario ts (excess_at choice.floor (total_of scenario))) of_plan
       (exceeded_less scenario targets.items (excess_at choice.floor (total_of scenario)) best.least floor_reached
       (λ order in_order.
-      no_better found.0 scenario targets.items best order well
-      (λ target of_target. all-in (MayBeTarget scenario) target targets.items may (in_of_contains target targets.items of_target)) found.1 in_order)))
+      no_better found.0 None scenario targets.items best order well
+      (λ target of_target. all-in (MayBeTarget scenario) target targets.items may (in_of_contains target targets.items of_target)) tt found.1 in_order)))
 
 -- ---- the order searched again
 module _ (no_better : NoOrderIsBetter) (keeps : BestOrderKeeps) (settings : Settings) (wanted : Wanted) (plan : Plan) (told : List Planned) (planned : Planned) (targets : Vec Target Global) (best : Best)
     (is : IsFound settings wanted plan told planned) (well : IsScenario planned.scenario) (of_plan : targets.items ≡ targets_by wanted plan planned.scenario)
-    (may : All (MayBeTarget planned.scenario) targets.items) (found : IsBest settings planned.scenario targets.items best) where
+    (may : All (MayBeTarget planned.scenario) targets.items) (found : IsBest settings None planned.scenario targets.items best) where
   abbrev again : Planned
   again = choice_of planned.placement planned.scenario targets best
 
@@ -109,7 +109,7 @@ module _ (no_better : NoOrderIsBetter) (keeps : BestOrderKeeps) (settings : Sett
   least_low : IsAtMost best.least planned.best.most
   least_low =
       least_kept no_better keeps settings is.used planned.scenario targets.items best planned.best well may found
-      (subst (λ (ts : List Target). IsBest is.used planned.scenario ts planned.best) (is.choice.targets ∙ sym of_plan) is.choice.best)
+      (subst (λ (ts : List Target). IsBest is.used None planned.scenario ts planned.best) (is.choice.targets ∙ sym of_plan) is.choice.best)
 
   -- it keeps no more than before
   reach_low : IsNoHigher (reach_of again) (reach_of planned) ⊎ IsOpenSomewhere settings wanted plan told

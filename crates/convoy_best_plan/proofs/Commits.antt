@@ -6,7 +6,7 @@ use Rattle.std.proofs.lemmas.List.Elements.{All-map}
 use Rattle.std.proofs.lemmas.Option.{get_or_from_slice_get, slice_get_within}
 use Rattle.convoy_scenario.specs.declared.sender.Sender.TheVariants.{Group}
 use Rattle.convoy_scenario.specs.Naming.{draft_for}
-use Rattle.convoy_scenario.specs.Scenario.{GoesTo, Scenario, message_at, range_between, takes_time}
+use Rattle.convoy_scenario.specs.Scenario.{GoesTo, Scenario, message_at, range_between, stamp_takes_time, takes_time}
 use Rattle.convoy_scenario.specs.ScenarioLaws.{DraftsGiveScenarios, ScenariosHaveDrafts}
 use Rattle.convoy_scenario.specs.WellFormed.{IsScenario}
 use Rattle.convoy_packets.specs.declared.packet.Packet.{Packet}
@@ -70,10 +70,6 @@ way_takes : (plan : Scenario) (p : Packet) (takes : Bool) (range : ℕ × ℕ) �
 way_takes plan p true range sent is = takes_most plan p sent ∙ ap (λ (r : ℕ × ℕ). r.1) is
 way_takes plan p false range sent is = no_time_if_unsent plan (greatest_run plan) p (ap not sent)
 
-cond_not : (b : Bool) (x y : ℕ × ℕ) → cond (not b) x y ≡ cond b y x
-cond_not true x y = refl
-cond_not false x y = refl
-
 module _ (plan : Scenario) (m g : ℕ) (goes : GoesTo plan m g) where
   abbrev run : Schedule
   run = greatest_run plan
@@ -85,8 +81,7 @@ module _ (plan : Scenario) (m g : ℕ) (goes : GoesTo plan m g) where
       let first : delay_of plan run (Multicast m h) ≡ (delays_between plan sender h).1 =
       way_takes plan (Multicast m h) (takes_time plan sender h) (range_between plan sender h) (ap (λ b. b && takes_time plan sender h) to_h) refl in
       let second : delay_of plan run (Propose m h g) ≡ (stamp_delays plan h g).1 =
-      way_takes plan (Propose m h g) (not (h == g)) (range_between plan (Group h) g) (ap₂ (λ a b. a && b && not (h == g)) to_h goes) refl
-      ∙ ap (λ (r : ℕ × ℕ). r.1) (cond_not (h == g) (range_between plan (Group h) g) (0, 0)) in
+      way_takes plan (Propose m h g) (stamp_takes_time plan h g) (range_between plan (Group h) g) (ap₂ (λ a b. a && b && stamp_takes_time plan h g) to_h goes) refl in
       omega (arith, first, second)
 
   commits_late : longest_to_commit plan m g ≤ settle plan run m g - issue plan run m

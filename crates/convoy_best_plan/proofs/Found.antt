@@ -20,7 +20,7 @@ use Rattle.convoy_best_plan.proofs.Lower.{after_or, lower_both, no_higher_after,
 
 -- ---- exceeding
 exceeded_in_less : (scenario : Scenario) (targets : List Target) (order : List ℕ) (least more : Excess) → IsAtMost least more
-    → IsExceededIn scenario targets order more → IsExceededIn scenario targets order least
+    → IsExceededIn None scenario targets order more → IsExceededIn None scenario targets order least
 exceeded_in_less scenario targets order least more low is = record {
   target = is.target;
   of_target = is.of_target;

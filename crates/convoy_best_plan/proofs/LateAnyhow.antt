@@ -9,10 +9,11 @@ use Rattle.convoy_scenario.specs.declared.sender.Sender.TheVariants as senders
 use Rattle.convoy_scenario.specs.Numbering.{numbers_of}
 use Rattle.convoy_scenario.specs.Room.{HasRoom}
 use Rattle.convoy_scenario.specs.Targets.{with_target}
-use Rattle.convoy_scenario.specs.Scenario.{Message, Scenario, is_addressed, is_same_sender, link_between, message_at, no_message, range_between, takes_time}
+use Rattle.convoy_scenario.specs.Scenario.{Message, Scenario, is_addressed, is_same_sender, link_between, message_at, no_message, range_between, stamp_takes_time, takes_time}
 use Rattle.convoy_scenario.specs.ScenarioLaws.{DraftsGiveScenarios, ScenariosHaveDrafts}
 use Rattle.convoy_draft.specs.Checks.{is_among}
 use Rattle.convoy_toml.specs.Shape.{WrittenMessage}
+use Rattle.convoy_packets.proofs.Sent.{other_stamp_takes}
 use Rattle.convoy_sim.specs.ProtocolLaws.{DeliveredAfterCommit}
 use Rattle.convoy_sim.proofs.Addressed.{in_of_goes}
 use Rattle.convoy_sim.proofs.Membership.{IsIn, all-in, greatest_most, in_greatest, in_of_contains, in_of_filter, in_of_range}
@@ -108,10 +109,12 @@ module _ (sites_law : RangesAreOfSites) (messages_law : MessagesAreOfPlans) (pla
     itself : ◌≡◌ {A = Origin} (Group h) (Group g) → (h == g) ≡ true
     itself e = ap (λ (s : Sender). is_same_sender s (senders.Group g)) (ap (sender_for plan) e) ∙ eq-eqb g g refl
 
-    by_test : (b : Bool) → (h == g) ≡ b
-        → cond b 0 (most_known plan (origin_site sites (Group h)) (site_known sites g)) ≤ (cond b (0, 0) (range_between scenario (senders.Group h) g)).1
-    by_test true here = omega arith
-    by_test false away = known_most (Group h) g origin known (λ e. both_ways _ away (itself e))
+    by_test : (b : Bool) → (h == g) ≡ b → cond b 0 (most_known plan (origin_site sites (Group h)) (site_known sites g)) ≤ (stamp_delays scenario h g).1
+    by_test true here = none_less (stamp_delays scenario h g).1
+    by_test false away =
+        let takes : stamp_takes_time scenario h g ≡ true = other_stamp_takes scenario h g away in
+        subst (λ (range : ℕ × ℕ). most_known plan (origin_site sites (Group h)) (site_known sites g) ≤ range.1) (sym (cond-true _ _ _ takes))
+        (known_most (Group h) g origin known (λ e. both_ways _ away (itself e)))
 
   module _ (m : ℕ) (low : m < length plan.written.messages) where
     pub goes_known : (h : ℕ) → IsIn h (message_at scenario m).destinations → h < length plan.written.groups

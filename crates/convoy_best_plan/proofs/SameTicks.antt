@@ -83,8 +83,8 @@ whole_counts key (Lasting length) made is = absurd cc
 
 bundle_counts : (link : WrittenLink) (made : Bundle) → bundle_of None link ≡ Ok made → AreCounted (link ∷ [])
 bundle_counts link made is =
-    let least = after_ok (whole None Least link.least) (λ n. whole None Most link.most >>= λ most. Ok (record { ends = link.ends; least = n; most = most })) made is in
-    let most = after_ok (whole None Most link.most) (λ n. Ok (record { ends = link.ends; least = least.0; most = n })) made least.2 in
+    let least = after_ok (whole None Least link.least) (λ n. whole None Most link.most >>= λ most. Ok (record { ends = link.ends; least = n; most = most; stamps = link.stamps })) made is in
+    let most = after_ok (whole None Most link.most) (λ n. Ok (record { ends = link.ends; least = least.0; most = n; stamps = link.stamps })) made least.2 in
     ap (λ b. b && (is_count link.most && true)) (whole_counts Least link.least least.0 least.1) ∙ ap (λ b. b && true) (whole_counts Most link.most most.0 most.1)
 
 bundles_count : (links : List WrittenLink) (made : List Bundle) → bundles_of None links ≡ Ok made → AreCounted links

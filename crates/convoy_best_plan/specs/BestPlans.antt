@@ -20,7 +20,7 @@ use Rattle.convoy_best_plan.specs.Totals.{total_of}
 -- THE FLOOR
 -- in each order of the groups some schedule of some of these targets exceeds its limit by so much, or by more
 abbrev pub IsExceeded : Scenario → List Target → Excess → Type 0
-IsExceeded scenario targets least = (order : List ℕ) → IsOrder scenario order → IsExceededIn scenario targets order least
+IsExceeded scenario targets least = (order : List ℕ) → IsOrder scenario order → IsExceededIn None scenario targets order least
 
 -- the targets of a scenario of the plan that count: where one of them has a deadline those that have one
 abbrev pub targets_by : Wanted → Plan → Scenario → List Target
@@ -43,7 +43,7 @@ pub record IsChoice (settings : Settings) (wanted : Wanted) (plan : Plan) (plann
   pub made : scenario_at plan planned.placement.items ≡ Ok planned.scenario
   pub targets : planned.targets.items ≡ targets_by wanted plan planned.scenario
   pub lawful : All (MayBeTarget planned.scenario) planned.targets.items
-  pub best : IsBest settings planned.scenario planned.targets.items planned.best
+  pub best : IsBest settings None planned.scenario planned.targets.items planned.best
   pub total : planned.total ≡ total_of planned.scenario
 
 -- what it keeps: the greatest excess in its order at most, and its total
@@ -62,7 +62,7 @@ pub record IsOpenSomewhere (settings : Settings) (wanted : Wanted) (plan : Plan)
   pub new : IsNew told placement
   pub scenario : Scenario
   pub made : scenario_at plan placement ≡ Ok scenario
-  pub may_be : MayStayOpen settings scenario (targets_by wanted plan scenario)
+  pub may_be : MayStayOpen settings None scenario (targets_by wanted plan scenario)
 
 -- The floor of the choice is what it keeps, and no less, unless for some placement, order and target a search may stay open.
 abbrev pub IsExact : Settings → Wanted → Plan → List Planned → Planned → Type 0

@@ -1,5 +1,5 @@
 -- What is proved of the best plan. Each is the one clause of the function of its name in the crate's module `choice_laws`.
-use Rattle.std.specs.Prelude.{◌≡◌, ℕ, List, Ok, Contains}
+use Rattle.std.specs.Prelude.{◌≡◌, ℕ, List, Ok, Contains, None}
 use Rattle.convoy_scenario.specs.Scenario.{Scenario}
 use Rattle.convoy_scenario.specs.WellFormed.{IsScenario}
 use Rattle.convoy_plans.specs.Placements.{IsPlacement, scenario_at}
@@ -22,14 +22,14 @@ abbrev pub NoChoiceIsBetter : Type 0
 NoChoiceIsBetter =
     (settings : Settings) (wanted : Wanted) (plan : Plan) (told : List Planned) (planned : Planned) (placement : List ℕ) (scenario : Scenario) (order : List ℕ)
     → IsBestPlan settings wanted plan told planned → IsPlacement plan placement → IsNew told placement → scenario_at plan placement ≡ Ok scenario → IsOrder scenario order
-    → IsExceededIn scenario (targets_by wanted plan scenario) order (excess_at planned.floor (total_of scenario))
+    → IsExceededIn None scenario (targets_by wanted plan scenario) order (excess_at planned.floor (total_of scenario))
 
 -- The choice that is told has at most the most.
 abbrev pub ChoiceKeeps : Type 0
 ChoiceKeeps =
     (settings : Settings) (wanted : Wanted) (plan : Plan) (told : List Planned) (planned : Planned) (target : Target)
     → IsBestPlan settings wanted plan told planned → Contains (targets_by wanted plan planned.scenario) target
-    → IsKeptIn planned.scenario planned.best.order.items planned.best.most target
+    → IsKeptIn None planned.scenario planned.best.order.items planned.best.most target
 
 -- A target that is so late with its group listed last is so late in each order of the groups, or some target is.
 abbrev pub LateLastIsLate : Type 0

@@ -61,11 +61,11 @@ better (Some planned) found =
 -- ONE PLACEMENT
 -- some search with some settings found that this is the best order for these targets
 abbrev pub IsBestBySome : Scenario → List Target → Best → Type 0
-IsBestBySome scenario targets best = (settings : Settings) × IsBest settings scenario targets best
+IsBestBySome scenario targets best = (settings : Settings) × IsBest settings None scenario targets best
 
 -- where it is open whether some order is better, the search was one with these settings
 abbrev pub IsOpenByThese : Settings → Scenario → List Target → Best → Type 0
-IsOpenByThese settings scenario targets best = IsLess best.least best.most → IsBest settings scenario targets best
+IsOpenByThese settings scenario targets best = IsLess best.least best.most → IsBest settings None scenario targets best
 
 -- The choice of a placement with its scenario, and with the best order there for these targets. Its floor is the least that is told of that order, or the most where that is less.
 abbrev pub choice_of : Vec ℕ Global → Scenario → Vec Target Global → Best → Planned

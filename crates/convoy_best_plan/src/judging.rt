@@ -36,9 +36,9 @@ pub(crate) fn best_found<R: Threads + Wait + Sync, W: Watch + Sync>(
     ensures is_open { IfOk result (IsOpenByThese options.now scenario.now targets.now) }
 {
     let quick = options.seeking(QUICK_SIMULATIONS);
-    let best = best_order(rt, alloc, scenario, targets, &quick, watches)?;
+    let best = best_order(rt, alloc, None, scenario, targets, &quick, watches)?;
     if best.least.is_less(best.most) {
-        return best_order(rt, alloc, scenario, targets, options, watches);
+        return best_order(rt, alloc, None, scenario, targets, options, watches);
     }
     Ok(best)
 }

@@ -144,7 +144,7 @@ fn settled<R: Threads + Wait + Sync, W: Watch + Sync>(
     // A scenario is well formed.
     let _count = scenario.group_count();
     let targets = targets_by(alloc, plan, wanted, &scenario)?;
-    let best = best_order(rt, alloc, &scenario, &targets, options, watches)?;
+    let best = best_order(rt, alloc, None, &scenario, &targets, options, watches)?;
     let found = choice_of(placement, scenario, targets, best);
     let floor = planned.floor.lower(found.floor);
     Ok(Planned { floor, ..found })

@@ -63,6 +63,7 @@ narrower_on : (scenario : Scenario) (way : Way) (range wide : ℕ × ℕ) → Is
 narrower_on scenario way range wide is high other = record {
   sender = refl;
   to = refl;
+  stamps = refl;
   range = by_test (is_same_way way other);
 } where
   by_test : (b : Bool) → IsWithinRange

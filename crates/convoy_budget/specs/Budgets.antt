@@ -2,11 +2,12 @@
 use Rattle.std.specs.Prelude.{◌≡◌, ◌⊎◌, ℕ, Bool, true, false, if◌then◌else◌, List, [], ◌∷◌, map, Option, Some, None, Ok, Err, Result}
 use Rattle.std.specs.List.{All, flat_map}
 use Rattle.convoy_scenario.specs.Scenario.{Scenario, message_at, message_numbers}
-use Rattle.convoy_scenario.specs.Targets.{may_be_target, with_target}
+use Rattle.convoy_scenario.specs.Targets.{may_be_target}
 use Rattle.convoy_branch.specs.Options.{Settings}
 use Rattle.convoy_commands.specs.declared.fault.Fault.{Fault}
 use Rattle.convoy_commands.specs.declared.fault.Fault.TheVariants.{Memory}
 use Rattle.convoy_commands.specs.Verdicts.{deadline_at}
+use Rattle.convoy_survey.specs.Findings.{scenario_at}
 use Rattle.convoy_survey.specs.Surveys.{IsTarget}
 use Rattle.convoy_budget.specs.declared.kinds.Budget.{Budget}
 use Rattle.convoy_budget.specs.declared.kinds.Side.TheVariants.{Later, Earlier}
@@ -56,27 +57,27 @@ pub record IsBudgetOf (settings : Settings) (of_ceiling : Bool) (scenario : Scen
   pub later : IsRoomTold settings (test_of of_ceiling row.target) scenario (record { way = row.way; side = Later }) row.later
   pub earlier : IsRoomTold settings (test_of of_ceiling row.target) scenario (record { way = row.way; side = Earlier }) row.earlier
 
--- it does so of the scenario with the target of the row
-abbrev pub IsBudget : Settings → Bool → Scenario → Budget → Type 0
-IsBudget settings of_ceiling scenario row =
-    IsBudgetOf settings of_ceiling (with_target scenario row.target.message row.target.group) row
+-- it does so of the scenario with the target of the row, or around it
+abbrev pub IsBudget : Settings → Bool → Option ℕ → Scenario → Budget → Type 0
+IsBudget settings of_ceiling span scenario row =
+    IsBudgetOf settings of_ceiling (scenario_at span scenario row.target.message row.target.group) row
 
 -- the target with each of these ways
 abbrev pub keys_of : List Way → Target → List (Target × Way)
 keys_of ways target = map (λ way. (target, way)) ways
 
 -- There is a row for each of these targets and each way on which packets travel, in their orders, and each is the budget of its way.
-pub record AreBudgets (settings : Settings) (of_ceiling : Bool) (scenario : Scenario) (targets : List Target) (rows : List Budget) : Type 0 where
+pub record AreBudgets (settings : Settings) (of_ceiling : Bool) (span : Option ℕ) (scenario : Scenario) (targets : List Target) (rows : List Budget) : Type 0 where
   pub keys : map key_of rows ≡ flat_map (keys_of (ways_of scenario)) targets
-  pub told : All (IsBudget settings of_ceiling scenario) rows
+  pub told : All (IsBudget settings of_ceiling span scenario) rows
 
 -- some range of some way makes no scenario, for the cause that the fault tells
 abbrev pub IsBroken : Scenario → Fault → Type 0
 IsBroken scenario fault = (widening : Widening) × MakesNone scenario widening fault
 
--- it is so with some target
-abbrev pub HasBroken : Scenario → Fault → Type 0
-HasBroken scenario fault = (m : ℕ) × (g : ℕ) × IsBroken (with_target scenario m g) fault
+-- it is so with some target, or around it
+abbrev pub HasBroken : Option ℕ → Scenario → Fault → Type 0
+HasBroken span scenario fault = (m : ℕ) × (g : ℕ) × IsBroken (scenario_at span scenario m g) fault
 
 -- ONE ROW
 -- the target may be one of the scenario
@@ -84,11 +85,11 @@ abbrev pub MayBeKey : Scenario → Target × Way → Type 0
 MayBeKey scenario key = MayBeTarget scenario key.0
 
 -- The row is that of the target and the way, and tells their budget.
-pub record TellsKey (settings : Settings) (of_ceiling : Bool) (scenario : Scenario) (key : Target × Way) (row : Budget) : Type 0 where
+pub record TellsKey (settings : Settings) (of_ceiling : Bool) (span : Option ℕ) (scenario : Scenario) (key : Target × Way) (row : Budget) : Type 0 where
   pub of_key : key_of row ≡ key
-  pub told : IsBudget settings of_ceiling scenario row
+  pub told : IsBudget settings of_ceiling span scenario row
 
 -- what may come of a target and a way: their row; or the fault of a range that makes no scenario; or that memory ran out
-abbrev pub MayTell : Settings → Bool → Scenario → Target × Way → Result Budget Fault → Type 0
-MayTell settings of_ceiling scenario key (Ok row) = TellsKey settings of_ceiling scenario key row
-MayTell settings of_ceiling scenario key (Err fault) = HasBroken scenario fault ⊎ (fault ≡ Memory)
+abbrev pub MayTell : Settings → Bool → Option ℕ → Scenario → Target × Way → Result Budget Fault → Type 0
+MayTell settings of_ceiling span scenario key (Ok row) = TellsKey settings of_ceiling span scenario key row
+MayTell settings of_ceiling span scenario key (Err fault) = HasBroken span scenario fault ⊎ (fault ≡ Memory)

@@ -5,7 +5,7 @@ use Rattle.convoy_draft.specs.Draft.{Draft, DraftLink}
 use Rattle.convoy_draft.specs.Limits.{greatest_delay}
 use Rattle.convoy_scenario.specs.Naming.{draft_for, draft_link}
 use Rattle.convoy_scenario.specs.Numbering.{scenario_of_draft}
-use Rattle.convoy_scenario.specs.Scenario.{Scenario, range_between}
+use Rattle.convoy_scenario.specs.Scenario.{Scenario, own_stamps_take_time, range_between}
 use Rattle.convoy_budget.specs.declared.kinds.Side.{Side}
 use Rattle.convoy_budget.specs.declared.kinds.Side.TheVariants.{Later, Earlier}
 use Rattle.convoy_budget.specs.declared.kinds.Way.{Way}
@@ -16,11 +16,11 @@ use Rattle.convoy_budget.specs.Ways.{all_ways, is_same_way}
 abbrev pub range_of_way : Scenario → Way → ℕ × ℕ
 range_of_way scenario way = range_between scenario way.sender way.to
 
--- the link of another way, where the one has that range and the others have theirs
+-- the link of another way, where the one has that range and the others have theirs; each is for stamps as it is
 abbrev pub link_on : Scenario → Way → ℕ × ℕ → Way → DraftLink
 link_on scenario way range other = with_its (if is_same_way way other then range else range_of_way scenario other) where
   with_its : ℕ × ℕ → DraftLink
-  with_its its = draft_link scenario (record { sender = other.sender; to = other.to; least = its.0; most = its.1 })
+  with_its its = draft_link scenario (record { sender = other.sender; to = other.to; least = its.0; most = its.1; stamps = own_stamps_take_time scenario other.sender other.to })
 
 -- the scenario by names, in which each way has a link with its range, that one with this range, and D is no less than its most: so no other way gets another range
 abbrev pub ranged_draft : Scenario → Way → ℕ × ℕ → Draft

@@ -129,6 +129,7 @@ fn link_on(
         to: draft_group(alloc, scenario, other.to)?,
         least: i64::from(least),
         most: i64::from(most),
+        stamps: scenario.own_stamps_take_time(other.sender, other.to),
     })
 }
 

@@ -1,5 +1,6 @@
-ghost use Rattle.std.specs.Prelude.{◌≡◌, ◌⊎◌, ◌<◌, ◌++◌, length, IfOk, IfErr, OnOk};
+ghost use Rattle.std.specs.Prelude.{◌≡◌, ◌⊎◌, ◌<◌, ◌++◌, length, IfOk, IfErr, IfSome, IsTrue, OnOk};
 ghost use Rattle.std.specs.List.{All, AllZip, flat_map};
+ghost use Rattle.convoy_around.specs.Around.{is_span};
 ghost use Rattle.convoy_budget.specs.Budgets.{AreBudgets, HasBroken, IsBroken, IsBudgetOf, MayBeKey, MayBeTarget, MayTell, key_of, keys_of};
 
 use super::drafting::range_of_way;
@@ -11,20 +12,23 @@ use convoy_commands::{Fault, Watch};
 use convoy_packets::Instance;
 use convoy_rows::{all_values, make_each};
 use convoy_scenario::Scenario;
+use convoy_survey::scenario_at;
 use std::alloc::{AllocError, Global};
 use std::sync::Wait;
 use std::thread::Threads;
 
-/// The budgets of all ways on which packets travel ([`ways_of`]), for these targets of an instance's scenario, one target
-/// after the other: the range of the way as it is, and the [`room`] that it has at either side before the greatest latency
-/// of the target, or its ceiling where that is asked for, misses the deadline. As many rows are made at a time as there
-/// are watches, and each search is watched by one of them.
+/// The budgets of all ways on which packets travel ([`ways_of`]), for these targets of an instance's scenario, one
+/// target after the other: the range of the way as it is, and the [`room`] that it has at either side before the
+/// greatest latency of the target, or its ceiling where that is asked for, misses the deadline. Where a span is given,
+/// that is asked of the scenario around the target ([`scenario_at`]): the span stays what it is where a range changes.
+/// As many rows are made at a time as there are watches, and each search is watched by one of them.
 ///
 /// A row for which memory runs out tells that, and the others are told all the same. `Fault::Memory` where there is no
 /// memory for the rows, and `Fault::Scenario` with its cause where a range makes no scenario.
 pub fn budgets<R: Threads + Wait + Sync, W: Watch + Sync>(
     rt: &R,
     alloc: Global,
+    span: Option<u32>,
     instance: &Instance,
     targets: &[Target],
     of_ceiling: bool,
@@ -33,14 +37,17 @@ pub fn budgets<R: Threads + Wait + Sync, W: Watch + Sync>(
 ) -> Result<Vec<Budget>, Fault>
     requires watched { 0 < length watches.now }
     requires lawful { All (MayBeTarget instance.now) targets.now }
+    requires span { IfSome span (λ n. IsTrue (is_span n)) }
     ensures told { IfOk result
-        (λ rows. AreBudgets options.now of_ceiling instance.now targets.now rows.items) }
-    ensures err { IfErr result (λ fault. HasBroken instance.now fault ⊎ (fault ≡ Fault.Memory)) }
+        (λ rows. AreBudgets options.now of_ceiling span instance.now targets.now rows.items) }
+    ensures err { IfErr result (λ fault. HasBroken span instance.now fault ⊎ (fault ≡ Fault.Memory)) }
 {
     let ways = ways_of(alloc, instance)?;
     let keys = all_keys(alloc, &ways, targets)?;
     let scenario = instance.scenario();
-    let rows = budget_each(rt, alloc, scenario, &keys, of_ceiling, options, watches)?;
+    let rows = budget_each(
+        rt, alloc, span, scenario, &keys, of_ceiling, options, watches,
+    )?;
     all_values(alloc, rows)?
 }
 
@@ -73,6 +80,7 @@ fn push_keys(ways: &[Way], target: Target, keys: &mut Vec<(Target, Way)>) -> Res
 fn budget_each<R: Threads + Wait + Sync, W: Watch + Sync>(
     rt: &R,
     alloc: Global,
+    span: Option<u32>,
     scenario: &Scenario,
     keys: &[(Target, Way)],
     of_ceiling: bool,
@@ -81,32 +89,35 @@ fn budget_each<R: Threads + Wait + Sync, W: Watch + Sync>(
 ) -> Result<Vec<Result<Budget, Fault>>, AllocError>
     requires watched { 0 < length watches.now }
     requires lawful { All (MayBeKey scenario.now) keys.now }
+    requires span { IfSome span (λ n. IsTrue (is_span n)) }
     ensures { IfOk result
-        (λ rows. AllZip (MayTell options.now of_ceiling scenario.now) keys.now rows.items) }
+        (λ rows. AllZip (MayTell options.now of_ceiling span scenario.now) keys.now rows.items) }
 {
     let row = |key: &(Target, Way), watch: &W| -> Result<Budget, Fault>
-        requires { MayBeKey scenario.now key.now }
-        ensures { MayTell options.entry.now of_ceiling scenario.entry.now key.now result }
-    { budget_at(rt, alloc, scenario, *key, of_ceiling, options, watch) };
+        requires { MayBeKey scenario.now key.now × IfSome span (λ n. IsTrue (is_span n)) }
+        ensures { MayTell options.entry.now of_ceiling span scenario.entry.now key.now result }
+    { budget_at(rt, alloc, span, scenario, *key, of_ceiling, options, watch) };
     let rows = make_each(rt, alloc, watches, keys, &row)?;
     Ok(rows)
 }
 
-/// The budget of a way for a target of the scenario.
+/// The budget of a way for a target of the scenario, around it where a span is given.
 fn budget_at<R: Threads + Wait + Sync, W: Watch + Sync>(
     rt: &R,
     alloc: Global,
+    span: Option<u32>,
     scenario: &Scenario,
     key: (Target, Way),
     of_ceiling: bool,
     options: &Options,
     watch: &W,
 ) -> Result<Budget, Fault>
-    requires { MayBeKey scenario.now key }
-    ensures { MayTell options.now of_ceiling scenario.now key result }
+    requires target { MayBeKey scenario.now key }
+    requires span { IfSome span (λ n. IsTrue (is_span n)) }
+    ensures { MayTell options.now of_ceiling span scenario.now key result }
 {
     let (target, way) = key;
-    let asked = scenario.with_target(target.message, target.group)?;
+    let asked = scenario_at(alloc, span, scenario, target.message, target.group)?;
     budget(rt, alloc, &asked, target, way, of_ceiling, options, watch)
 }
 

@@ -1,16 +1,15 @@
 -- No ceiling is above 4 D, as no range goes beyond D; and it is below 4 D where all that comes to the group takes a tick.
-use Rattle.std.proofs.Common.{◌≡◌, ℕ, ◌-◌, ◌*◌, ◌<◌, ◌≤◌, ◌==◌, ◌&&◌, ◌||◌, not, inl, inr, length, Option, Some, None, true, false, ap, refl, sym, subst, ◌∙◌, arith}
-use Rattle.std.specs.Option.{is_some, option_map_or}
+use Rattle.std.proofs.Common.{◌≡◌, ℕ, ◌-◌, ◌*◌, ◌<◌, ◌≤◌, ◌==◌, ◌&&◌, inl, inr, length, Option, Some, None, true, refl, sym, subst, arith}
+use Rattle.std.specs.Option.{option_map_or}
 use Rattle.std.proofs.lemmas.Bool.{cases_Bool, cond-true, cond-false}
 use Rattle.convoy_scenario.specs.declared.sender.Sender.{Sender}
 use Rattle.convoy_scenario.specs.declared.sender.Sender.TheVariants.{Group}
-use Rattle.convoy_scenario.specs.Scenario.{Link, Scenario, GoesTo, message_at, is_same_sender, is_sent_by, link_between, range_between, takes_time}
+use Rattle.convoy_scenario.specs.Scenario.{Link, Scenario, GoesTo, message_at, is_same_sender, link_between, range_between, stamp_takes_time, takes_time}
 use Rattle.convoy_scenario.specs.WellFormed.{IsScenario, IsLink}
 use Rattle.convoy_sim.specs.Delivery.{addressed_to}
 use Rattle.convoy_sim.proofs.Membership.{all-in, greatest_most, in_of_find}
 use Rattle.convoy_sim.proofs.Addressed.{goes_of_addressed}
 use Rattle.convoy_ceiling.specs.Ceiling.{CeilingBelowFourDelays, CeilingWithinFourDelays, ceiling_at, delays_between, longest_by, longest_to_commit, longest_from_arrival, longest_after, stamp_delays}
-use Rattle.convoy_ceiling.proofs.Senders.{sends_itself}
 
 -- the range of a link, or of what has none
 abbrev ends : Option Link → ℕ → ℕ × ℕ
@@ -33,9 +32,9 @@ module _ (scenario : Scenario) (well : IsScenario scenario) where
   ]
 
   stamp_most : (from to : ℕ) → (stamp_delays scenario from to).1 ≤ scenario.delay
-  stamp_most from to = elim (cases_Bool (from == to)) [
-    | inl home ↦ subst (λ (range : ℕ × ℕ). range.1 ≤ scenario.delay) (sym (cond-true _ _ _ home)) (omega arith)
-    | inr away ↦ subst (λ (range : ℕ × ℕ). range.1 ≤ scenario.delay) (sym (cond-false _ _ _ away)) (range_within (Group from) to).1
+  stamp_most from to = elim (cases_Bool (stamp_takes_time scenario from to)) [
+    | inl away ↦ subst (λ (range : ℕ × ℕ). range.1 ≤ scenario.delay) (sym (cond-true _ _ _ away)) (range_within (Group from) to).1
+    | inr home ↦ subst (λ (range : ℕ × ℕ). range.1 ≤ scenario.delay) (sym (cond-false _ _ _ home)) (omega arith)
   ]
 
   commit_most : (m g : ℕ) → longest_to_commit scenario m g ≤ 2 * scenario.delay
@@ -49,23 +48,21 @@ module _ (scenario : Scenario) (well : IsScenario scenario) where
   after_most g = greatest_most (longest_from_arrival scenario g) (2 * scenario.delay) (addressed_to scenario g)
       (λ m i. let most = commit_most m g in omega arith)
 
-  -- from elsewhere a message takes a tick or more, so less is left from its arrival
-  from_arrival_less : (m g : ℕ) → is_sent_by (message_at scenario m) g ≡ false → longest_from_arrival scenario g m < 2 * scenario.delay
-  from_arrival_less m g away =
+  -- a message that takes time takes a tick or more, so less is left from its arrival
+  from_arrival_less : (m g : ℕ) → takes_time scenario (message_at scenario m).sender g ≡ true → longest_from_arrival scenario g m < 2 * scenario.delay
+  from_arrival_less m g takes =
       let sender : Sender = (message_at scenario m).sender in
-      let takes : takes_time scenario sender g ≡ true =
-      ap (λ same. not same || is_some (link_between scenario.links sender g)) (sym (sends_itself (message_at scenario m) g) ∙ away) in
       let least : 1 ≤ (delays_between scenario sender g).0 = subst (λ (range : ℕ × ℕ). 1 ≤ range.0) (sym (cond-true _ _ _ takes)) (range_within sender g).0 in
       let most = commit_most m g in
       let some = well.delay_low in
       omega arith
 
-  after_less : (g : ℕ) → ((n : ℕ) → GoesTo scenario n g → is_sent_by (message_at scenario n) g ≡ false) → longest_after scenario g < 2 * scenario.delay
-  after_less g away =
+  after_less : (g : ℕ) → ((n : ℕ) → GoesTo scenario n g → takes_time scenario (message_at scenario n).sender g ≡ true) → longest_after scenario g < 2 * scenario.delay
+  after_less g takes =
       let some = well.delay_low in
       let most : longest_after scenario g ≤ 2 * scenario.delay - 1 =
       greatest_most (longest_from_arrival scenario g) (2 * scenario.delay - 1) (addressed_to scenario g)
-      (λ m i. let less = from_arrival_less m g (away m (goes_of_addressed scenario m g i)) in omega arith) in
+      (λ m i. let less = from_arrival_less m g (takes m (goes_of_addressed scenario m g i)) in omega arith) in
       omega arith
 
 pub within_four : CeilingWithinFourDelays
@@ -77,7 +74,7 @@ within_four scenario well m g =
 
 pub below_four : CeilingBelowFourDelays
 unfolding ceiling_at
-below_four scenario well g away m =
+below_four scenario well g takes m =
     let first = commit_most scenario well m g in
-    let second = after_less scenario well g away in
+    let second = after_less scenario well g takes in
     omega arith

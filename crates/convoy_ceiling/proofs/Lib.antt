@@ -1,5 +1,4 @@
 pub mod Used
-pub mod Senders
 pub mod SameKinds
 pub mod WithinRanges
 pub mod Bound

@@ -1,5 +1,5 @@
 -- Worked rows: ceilings computed from the definition alone, and traffic of the base scenario's kinds.
-use Rattle.std.proofs.Common.{All, ◌≡◌, ℕ, zero, suc, List, [], ◌∷◌, codes, refl, arith}
+use Rattle.std.proofs.Common.{All, ◌≡◌, ℕ, zero, suc, true, false, List, [], ◌∷◌, codes, refl, arith}
 use Rattle.convoy_scenario.specs.declared.sender.Sender.TheVariants.{Client, Group}
 use Rattle.convoy_scenario.specs.declared.sender.Sender.{Sender}
 use Rattle.convoy_scenario.specs.Scenario.{Link, Message, Scenario}
@@ -29,7 +29,7 @@ unfolding base_with message ceiling_at
 of_x = refl
 
 link : Sender → ℕ → ℕ → ℕ → Link
-link sender to least most = record { sender = sender; to = to; least = least; most = most }
+link sender to least most = record { sender = sender; to = to; least = least; most = most; stamps = false }
 
 -- with links from the clients to b and from b to a: t takes 4 ticks, and y 5
 linked : ceiling_of (record base { links = link Client 1 1 2 ∷ link (Group 1) 0 2 2 ∷ [] }) ≡ 9
@@ -53,6 +53,11 @@ to_itself = refl
 by_link_to_itself : ceiling_of (record (with_messages (message (codes "m") (Group 0) (0 ∷ []) 0 ∷ [])) { links = link (Group 0) 0 2 3 ∷ [] }) ≡ 4
 unfolding with_messages base_with message link ceiling_at ceiling_of
 by_link_to_itself = refl
+
+-- where that is for stamps, too, it takes 6 ticks to its commit, and may wait four more
+by_link_for_stamps : ceiling_of (record (with_messages (message (codes "m") (Group 0) (0 ∷ []) 0 ∷ [])) { links = record (link (Group 0) 0 2 3) { stamps = true } ∷ [] }) ≡ 10
+unfolding with_messages base_with message link ceiling_at ceiling_of
+by_link_for_stamps = refl
 
 -- traffic of the base scenario's kinds: a message of the kind of t at tick 5, three of that of y at tick 3, and one of that of t at tick 0
 unfoldable busy : Scenario

@@ -5,7 +5,7 @@ use Rattle.std.proofs.lemmas.List.{get_or_default}
 use Rattle.std.specs.List.{list_any}
 use Rattle.std.specs.List.Sorted.{IsStrictlyIncreasing}
 use Rattle.std.specs.Option.{is_some, option_map_or}
-use Rattle.convoy_scenario.specs.Scenario.{Scenario, GoesTo, no_message, message_at, is_same_sender, link_between, range_between}
+use Rattle.convoy_scenario.specs.Scenario.{Link, Scenario, GoesTo, no_message, message_at, is_same_sender, link_between, range_between}
 use Rattle.convoy_scenario.specs.declared.sender.Sender.TheVariants.{Group}
 use Rattle.convoy_scenario.specs.WellFormed.{IsScenario}
 use Rattle.convoy_packets.specs.declared.packet.Packet.{Packet}
@@ -34,7 +34,10 @@ own_kinds scenario = record {
 pub same_ticks : (scenario traffic : Scenario) → IsTrafficOf scenario traffic → IsFinerTrafficOf 1 scenario traffic
 same_ticks scenario traffic is = record {
   groups = is.groups;
-  home = λ g. ap (λ links. not (is_same_sender (Group g) (Group g)) || is_some (link_between links (Group g) g)) is.links;
+  homes = record {
+    messages = λ g. ap (λ links. not (is_same_sender (Group g) (Group g)) || is_some (link_between links (Group g) g)) is.links;
+    stamps = λ g. ap (λ links. not (g == g) || option_map_or (λ (link : Link). link.stamps) (link_between links (Group g) g) false) is.links;
+  };
   kinds = is.kinds;
   least = λ packet moves. subst (λ (range : ℕ × ℕ). 1 * range.0 ≤ (range_of traffic packet).0) (same_range packet moves) (omega arith);
   most = λ packet moves. subst (λ (range : ℕ × ℕ). (range_of traffic packet).1 ≤ 1 * range.1) (same_range packet moves) (omega arith);

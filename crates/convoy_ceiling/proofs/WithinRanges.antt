@@ -1,9 +1,8 @@
 -- The delays of traffic, whatever the order of ties, are within the ranges of the scenario of which its kinds are.
-use Rattle.std.proofs.Common.{◌≡◌, ℕ, ◌*◌, ◌≤◌, ◌==◌, true, false, ◌&&◌, not, inl, inr, refl, sym, ap, ap₂, subst, subst₂, ◌∙◌, arith}
-use Rattle.std.proofs.lemmas.Bool.{cases_Bool, cond-true, cond-false, eqb-true}
+use Rattle.std.proofs.Common.{◌≡◌, ℕ, ◌*◌, ◌≤◌, true, false, ◌&&◌, not, inl, inr, refl, sym, ap, ap₂, subst, ◌∙◌, arith}
+use Rattle.std.proofs.lemmas.Bool.{cases_Bool, cond-true, cond-false}
 use Rattle.convoy_scenario.specs.declared.sender.Sender.{Sender}
-use Rattle.convoy_scenario.specs.declared.sender.Sender.TheVariants.{Client, Group}
-use Rattle.convoy_scenario.specs.Scenario.{Scenario, GoesTo, message_at, takes_time}
+use Rattle.convoy_scenario.specs.Scenario.{Scenario, GoesTo, TakeTimeAlike, message_at, stamp_takes_time, takes_time}
 use Rattle.convoy_packets.specs.declared.packet.Packet.{Packet}
 use Rattle.convoy_packets.specs.declared.packet.Packet.TheVariants.{Multicast, Propose}
 use Rattle.convoy_packets.specs.Packets.{is_wait}
@@ -39,20 +38,16 @@ module _ (used : Used) (times : ℕ) (scenario traffic : Scenario) (is : IsFiner
       let none : delay_of traffic schedule packet ≡ 0 = used.unsent traffic schedule packet (ap not away) in
       subst (IsTimesWithin times (0, 0)) (sym none) (omega arith, omega arith)
 
-  -- what takes time in the traffic takes time in the scenario
-  same_takes : (sender : Sender) (to : ℕ) → takes_time traffic sender to ≡ takes_time scenario sender to
-  same_takes Client to = refl
-  same_takes (Group g) to = elim (cases_Bool (g == to)) [
-    | inl home ↦ subst (λ (k : ℕ). takes_time traffic (Group k) to ≡ takes_time scenario (Group k) to) (sym (eqb-true g to home)) (is.home to)
-    | inr away ↦ rw away refl
-  ]
+  -- what takes time in the traffic takes time in the scenario, be it a message or a stamp
+  alike : TakeTimeAlike scenario traffic
+  alike = used.homes scenario traffic is.homes
 
   -- a message on its way to one of its destinations
   pub multicast_within : (m h : ℕ) → GoesTo traffic m h
       → IsTimesWithin times (delays_between scenario (message_at traffic m).sender h) (delay_of traffic schedule (Multicast m h))
   multicast_within m h goes =
       let sender : Sender = (message_at traffic m).sender in
-      let sent : is_sent traffic (Multicast m h) ≡ takes_time scenario sender h = ap (λ b. b && takes_time traffic sender h) goes ∙ same_takes sender h in
+      let sent : is_sent traffic (Multicast m h) ≡ takes_time scenario sender h = ap (λ b. b && takes_time traffic sender h) goes ∙ alike.messages sender h in
       elim (cases_Bool (takes_time scenario sender h)) [
         | inl takes ↦
             subst (λ range. IsTimesWithin times range (delay_of traffic schedule (Multicast m h))) (sym (cond-true _ _ _ takes))
@@ -66,12 +61,13 @@ module _ (used : Used) (times : ℕ) (scenario traffic : Scenario) (is : IsFiner
   pub propose_within : (m h g : ℕ) → GoesTo traffic m h → GoesTo traffic m g
       → IsTimesWithin times (stamp_delays scenario h g) (delay_of traffic schedule (Propose m h g))
   propose_within m h g from to =
-      let sent : is_sent traffic (Propose m h g) ≡ not (h == g) = ap₂ (λ a b. a && b && not (h == g)) from to in
-      elim (cases_Bool (h == g)) [
-        | inl home ↦
-            subst (λ range. IsTimesWithin times range (delay_of traffic schedule (Propose m h g))) (sym (cond-true _ _ _ home))
-            (unsent_times (Propose m h g) (sent ∙ ap not home))
-        | inr away ↦
-            subst (λ range. IsTimesWithin times range (delay_of traffic schedule (Propose m h g))) (sym (cond-false _ _ _ away))
-            (sent_times (Propose m h g) refl (sent ∙ ap not away))
+      let sent : is_sent traffic (Propose m h g) ≡ stamp_takes_time scenario h g =
+      ap₂ (λ a b. a && b && stamp_takes_time traffic h g) from to ∙ alike.stamps h g in
+      elim (cases_Bool (stamp_takes_time scenario h g)) [
+        | inl takes ↦
+            subst (λ range. IsTimesWithin times range (delay_of traffic schedule (Propose m h g))) (sym (cond-true _ _ _ takes))
+            (sent_times (Propose m h g) refl (sent ∙ takes))
+        | inr home ↦
+            subst (λ range. IsTimesWithin times range (delay_of traffic schedule (Propose m h g))) (sym (cond-false _ _ _ home))
+            (unsent_times (Propose m h g) (sent ∙ home))
       ]

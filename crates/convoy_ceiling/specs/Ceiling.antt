@@ -1,8 +1,8 @@
 -- The ceiling: a number that no latency exceeds, whatever traffic of a scenario's kinds of messages there is.
-use Rattle.std.specs.Prelude.{◌≡◌, ℕ, ◌+◌, ◌-◌, ◌*◌, ◌≤◌, ◌<◌, ◌==◌, Bool, ◌&&◌, not, length, map, All, IsFalse, IsTrue, if◌then◌else◌}
+use Rattle.std.specs.Prelude.{◌≡◌, ℕ, ◌+◌, ◌-◌, ◌*◌, ◌≤◌, ◌<◌, Bool, ◌&&◌, not, length, map, All, IsFalse, IsTrue, if◌then◌else◌}
 use Rattle.convoy_scenario.specs.declared.sender.Sender.{Sender}
 use Rattle.convoy_scenario.specs.declared.sender.Sender.TheVariants.{Group}
-use Rattle.convoy_scenario.specs.Scenario.{Message, Scenario, GoesTo, message_at, is_sent_by, range_between, takes_time}
+use Rattle.convoy_scenario.specs.Scenario.{HaveSameHomes, Message, Scenario, GoesTo, message_at, range_between, stamp_takes_time, takes_time}
 use Rattle.convoy_scenario.specs.WellFormed.{IsScenario}
 use Rattle.convoy_packets.specs.declared.packet.Packet.{Packet}
 use Rattle.convoy_packets.specs.Packets.{is_wait}
@@ -17,9 +17,9 @@ use Rattle.convoy_sim.specs.Traffic.{IsTraffic}
 abbrev pub delays_between : Scenario → Sender → ℕ → ℕ × ℕ
 delays_between scenario sender to = if takes_time scenario sender to then range_between scenario sender to else (0, 0)
 
--- the least and the greatest delay of a stamp from a group to another one; its own takes no time
+-- the least and the greatest delay of a stamp from a group to another one; its own takes no time without a link of the group to itself that is for stamps
 abbrev pub stamp_delays : Scenario → ℕ → ℕ → ℕ × ℕ
-stamp_delays scenario from to = if from == to then (0, 0) else range_between scenario (Group from) to
+stamp_delays scenario from to = if stamp_takes_time scenario from to then range_between scenario (Group from) to else (0, 0)
 
 -- the longest way from a sender to group h, and on to group g
 abbrev pub longest_by : Scenario → Sender → ℕ → ℕ → ℕ
@@ -72,7 +72,7 @@ range_by scenario traffic packet = range_between scenario (sender_of traffic pac
 -- traffic of a scenario's kinds of messages in ticks so many times as fine: the same groups have links to themselves, the range of each packet that travels lies within so many times the one that the scenario's links give it, and messages wait for any time
 pub record IsFinerTrafficOf (times : ℕ) (scenario traffic : Scenario) : Type 0 where
   pub groups : length traffic.groups ≡ length scenario.groups
-  pub home : (g : ℕ) → takes_time traffic (Group g) g ≡ takes_time scenario (Group g) g
+  pub homes : HaveSameHomes scenario traffic
   pub kinds : All (IsOfSomeKind scenario) traffic.multicasts
   pub least : (packet : Packet) → IsTrue (travels traffic packet) → times * (range_by scenario traffic packet).0 ≤ (range_of traffic packet).0
   pub most : (packet : Packet) → IsTrue (travels traffic packet) → (range_of traffic packet).1 ≤ times * (range_by scenario traffic packet).1
@@ -108,8 +108,8 @@ CeilingIsUpper = (scenario : Scenario) → IsScenario scenario → IsUpper scena
 abbrev pub CeilingWithinFourDelays : Type 0
 CeilingWithinFourDelays = (scenario : Scenario) → IsScenario scenario → (m g : ℕ) → ceiling_at scenario m g ≤ 4 * scenario.delay
 
--- Where a group sends none of the messages that go to it, each ceiling at the group is below 4 D.
+-- Where each message that goes to a group takes time on its way there, each ceiling at the group is below 4 D.
 abbrev pub CeilingBelowFourDelays : Type 0
 CeilingBelowFourDelays =
-    (scenario : Scenario) → IsScenario scenario → (g : ℕ) → ((n : ℕ) → GoesTo scenario n g → IsFalse (is_sent_by (message_at scenario n) g))
+    (scenario : Scenario) → IsScenario scenario → (g : ℕ) → ((n : ℕ) → GoesTo scenario n g → IsTrue (takes_time scenario (message_at scenario n).sender g))
     → (m : ℕ) → ceiling_at scenario m g < 4 * scenario.delay

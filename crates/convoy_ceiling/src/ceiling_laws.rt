@@ -14,6 +14,7 @@ ghost use Rattle.convoy_ceiling.specs.Targets.{CeilingBoundsTraffic, OwnKindsAre
 use convoy_packets::schedule_laws::{
     delays_are_within, fixed_order_is_order, unsent_takes_no_time,
 };
+use convoy_scenario::scenario_laws::homes_decide_what_takes_time;
 use convoy_sim::protocol_laws::traffic_delivery_bound;
 
 /// In traffic of a scenario's kinds of messages, of any number and issued at any ticks, no message has a
@@ -34,6 +35,7 @@ pub fn ceiling_holds_in_finer_ticks()
     delays_are_within();
     fixed_order_is_order();
     unsent_takes_no_time();
+    homes_decide_what_takes_time();
 }
 
 /// The same of kinds of messages of any number, each of which goes to one or more of the groups: they need not be those of a
@@ -45,6 +47,7 @@ pub fn ceiling_holds_for_any_kinds()
     delays_are_within();
     fixed_order_is_order();
     unsent_takes_no_time();
+    homes_decide_what_takes_time();
 }
 
 /// No latency of a scenario is above its ceiling. So the greatest one, which a search looks for, is not.
@@ -60,7 +63,8 @@ pub fn ceiling_within_four_delays()
     ensures { CeilingWithinFourDelays }
 {}
 
-/// At a group that sends none of the messages that go to it each ceiling is below 4 D.
+/// At a group to which each message takes time each ceiling is below 4 D: the group sends none of those that go to it, or
+/// it has a link to itself.
 #[tactic(auto, using(crate::proofs::FourDelays::below_four))]
 pub fn ceiling_below_four_delays()
     ensures { CeilingBelowFourDelays }

@@ -109,13 +109,14 @@ pub fn delays_between(scenario: &Scenario, sender: Sender, to: usize) -> (u16, u
     }
 }
 
-/// The least and the greatest delay of a stamp from a group to another one, in ticks; its own takes no time.
+/// The least and the greatest delay of a stamp from a group to another one, in ticks; its own takes no time, unless the
+/// group has a link to itself that is for stamps.
 pub fn stamp_delays(scenario: &Scenario, from: usize, to: usize) -> (u16, u16)
     ensures { result ≡ stamp_delays scenario.now from to }
 {
-    if from == to {
-        (0, 0)
-    } else {
+    if scenario.stamp_takes_time(from, to) {
         scenario.range_between(Sender::Group(from), to)
+    } else {
+        (0, 0)
     }
 }

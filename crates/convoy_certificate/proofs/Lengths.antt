@@ -1,5 +1,5 @@
 -- How many bytes the lines of a certificate have at most, and its text.
-use Rattle.std.proofs.Common.{◌≡◌, ℕ, zero, suc, ◌+◌, ◌*◌, ◌<◌, ◌≤◌, ◌^◌, nat_le, ◌==◌, true, false, cond, ◌&&◌, not, Option, Some, None, List, [], ◌∷◌, ◌++◌, length, length-append, map, get_or, ap, ◌∙◌, arith, refl, codes, decimal}
+use Rattle.std.proofs.Common.{◌≡◌, ℕ, zero, suc, ◌+◌, ◌*◌, ◌<◌, ◌≤◌, ◌^◌, nat_le, ◌==◌, Bool, true, false, cond, ◌&&◌, not, Option, Some, None, List, [], ◌∷◌, ◌++◌, length, length-append, map, get_or, ap, ◌∙◌, arith, refl, codes, decimal}
 use Rattle.std.specs.List.{AllByRecursion, flat_map, list_all}
 use Rattle.std.specs.Str.{bytes_eq}
 use Rattle.std.proofs.lemmas.Bool.{and_parts, false≢true, leb-true}
@@ -20,7 +20,7 @@ use Rattle.convoy_draft.specs.Durations.{count_of, unit_of, unit_word}
 use Rattle.convoy_scenario.specs.Naming.{sender_word}
 use Rattle.convoy_scenario_lines.specs.declared.version.Version.{Version as LinesVersion}
 use Rattle.convoy_scenario_lines.specs.declared.version.Version.TheVariants as lines
-use Rattle.convoy_scenario_lines.specs.ScenarioLines.{time_lines, issue_word, tick_line, tick_lines, delay_line, groups_line, link_line, multicast_line, target_line, lines_from_delay, scenario_lines}
+use Rattle.convoy_scenario_lines.specs.ScenarioLines.{time_lines, issue_word, tick_line, tick_lines, delay_line, groups_line, link_line, stamps_words, multicast_line, target_line, lines_from_delay, scenario_lines}
 use Rattle.convoy_scenario.specs.Scenario.{Link, Message, Scenario, is_timed, message_at, group_name_at, no_message}
 use Rattle.convoy_scenario.specs.WellFormed.{IsLink, IsMulticast, IsScenario}
 use Rattle.convoy_draft.specs.Names.{is_letter, is_name_byte, is_name, client_word, is_group_name}
@@ -182,12 +182,21 @@ multicasts_short plan (message ∷ messages) few short are =
 
 -- ---- links
 
+stamps_short : (stamps : Bool) → AreShort (stamps_words stamps)
+stamps_short true = (omega arith, tt)
+stamps_short false = tt
+
+stamps_few : (stamps : Bool) → length (stamps_words stamps) ≤ 1
+stamps_few true = omega arith
+stamps_few false = omega arith
+
 link_length : (plan : Scenario) (link : Link) → IsScenario plan → AreShort plan.groups → IsLink (length plan.groups) plan.delay link → length (link_line plan link) ≤ 300
 link_length plan link is short known =
     let low = number_length link.least (omega (arith, known.ordered, known.high, is.delay_high)) in
     let high = number_length link.most (omega (arith, known.high, is.delay_high)) in
-    let words : List (List ℕ) = sender_word plan link.sender ∷ group_name_at plan link.to ∷ decimal link.least ∷ decimal link.most ∷ [] in
-    let line = line_length (codes "link") words (sender_length plan link.sender short, (word_at plan.groups link.to short, (low, (high, tt)))) in
+    let words : List (List ℕ) = sender_word plan link.sender ∷ group_name_at plan link.to ∷ decimal link.least ∷ decimal link.most ∷ stamps_words link.stamps in
+    let last = stamps_few link.stamps in
+    let line = line_length (codes "link") words (sender_length plan link.sender short, (word_at plan.groups link.to short, (low, (high, stamps_short link.stamps)))) in
     omega arith
 
 links_short : (plan : Scenario) (links : List Link) → IsScenario plan → AreShort plan.groups → AllByRecursion (IsLink (length plan.groups) plan.delay) links → AreShortLines (map (link_line plan) links)
@@ -284,7 +293,7 @@ order_length Real ranks small few =
     let sum = length-append (ended (order_line ranks)) [] in
     omega arith
 
-schedule_length : (c : Certificate) → IsCertificate c → length (text_of (schedule_lines c.scenario c.schedule)) ≤ 22_047
+schedule_length : (c : Certificate) → IsCertificate c → length (text_of (schedule_lines c.scenario c.schedule)) ≤ 24_223
 schedule_length c is =
     let packets = length-packets_of-le c.scenario is.scenario in
     let each = length-assignment c.scenario c.schedule is.assigned in

@@ -33,7 +33,7 @@ map_takes f None y e = absurd cc
 map_takes f (Some x) y e = (x, refl, same_Some (f x) y e)
 
 -- the packet and the place of a split have 16 bits
-pub packet_fits : (timed : Bool) → greatest_packet timed ≤ 1_039
+pub packet_fits : (timed : Bool) → greatest_packet timed ≤ 1_167
 packet_fits true = omega arith
 packet_fits false = omega arith
 

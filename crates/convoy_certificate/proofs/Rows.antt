@@ -1,5 +1,5 @@
 -- Worked rows, computed from the definitions alone.
-use Rattle.std.proofs.Common.{◌≡◌, ℕ, false, List, [], ◌∷◌, ◌++◌, replicate, slice_set, Option, Some, None, Result, Ok, Err, refl, codes}
+use Rattle.std.proofs.Common.{◌≡◌, ℕ, true, false, List, [], ◌∷◌, ◌++◌, replicate, slice_set, Option, Some, None, Result, Ok, Err, refl, codes}
 use Rattle.std.specs.Fmt.{digits}
 use Rattle.std.specs.List.{AllByRecursion}
 use Rattle.convoy_scenario_lines.specs.declared.line_fault.Expected.{Expected}
@@ -77,7 +77,7 @@ foot = codes "target t a\nlatency 12\nschedule 3 3 3 3 3 3 3 3\n"
 -- the base with links from clients to b and from b to a
 abbrev linked : Certificate
 linked = record base {
-  scenario = record base.scenario { links = record { sender = Client; to = 1; least = 2; most = 3 } ∷ record { sender = Group 1; to = 0; least = 1; most = 1 } ∷ [] };
+  scenario = record base.scenario { links = record { sender = Client; to = 1; least = 2; most = 3; stamps = false } ∷ record { sender = Group 1; to = 0; least = 1; most = 1; stamps = false } ∷ [] };
 }
 
 -- the base in real time, with a lead leaf
@@ -112,6 +112,13 @@ target_waiting time = record base {
   schedule = in_fixed_order (3 ∷ 0 ∷ 3 ∷ 3 ∷ 3 ∷ 3 ∷ 3 ∷ 3 ∷ 3 ∷ []);
 }
 
+-- the base, in which b's own stamps take time, by its link to itself; they come last among the delays of each message
+abbrev agreeing_twice : Certificate
+agreeing_twice = record base {
+  scenario = record base.scenario { links = record { sender = Group 1; to = 1; least = 1; most = 2; stamps = true } ∷ [] };
+  schedule = in_fixed_order (3 ∷ 2 ∷ 3 ∷ 3 ∷ 3 ∷ 3 ∷ 2 ∷ 3 ∷ 3 ∷ 3 ∷ 2 ∷ []);
+}
+
 -- its text from the line `delay` to the line `schedule`
 abbrev target_issued : List ℕ
 target_issued = codes "delay 3\ngroups a b\nmulticast x client 0 b\nmulticast t client 0..2 a b\nmulticast y a 6 a b\ntarget t a\nlatency 12\nschedule 3 0 3 3 3 3 3 3 3\n"
@@ -133,15 +140,16 @@ texts_in_ticks : HaveTexts (
 unfolding digits no_order
 texts_in_ticks = (refl, (refl, (refl, (refl, (refl, tt)))))
 
--- in version 4: in real time a line `order` stands there, which is the word alone where ties fall in the fixed order, and a line `tick`, where a tick has a length; where a message may wait, its line has two ticks
+-- in version 4: in real time a line `order` stands there, which is the word alone where ties fall in the fixed order, and a line `tick`, where a tick has a length; where a message may wait, its line has two ticks; the line of a link for stamps, too, has a word for it
 texts_with_time : HaveTexts (
     (in_real_time, codes "convoy 4\ntime real\ndelay 3\ngroups a b\n" ++ issued ++ foot ++ codes "order\nc 12\nend\n")
     ∷ (tied, codes "convoy 4\ntime real\ndelay 3\ngroups a b\n" ++ issued ++ foot ++ codes "order 0 0 0 0 1 0 0 0 0 0\nc 12\nend\n")
     ∷ (record in_real_time { scenario = record in_real_time.scenario { tick = Some 50_000 } }, codes "convoy 4\ntime real\ntick 50 us\ndelay 3\ngroups a b\n" ++ issued ++ foot ++ codes "order\nc 12\nend\n")
     ∷ (waiting, codes "convoy 4\ntime ticks\ndelay 3\ngroups a b\nmulticast x client 0 b\nmulticast t client 0 a b\nmulticast y a 6..8 a b\ntarget t a\nlatency 12\nschedule 3 3 3 3 3 0 3 3 3\ns 5 0\np\nt\nend\n")
+    ∷ (agreeing_twice, codes "convoy 4\ntime ticks\ndelay 3\ngroups a b\nlink b b 1 2 stamps\n" ++ issued ++ codes "target t a\nlatency 12\nschedule 3 2 3 3 3 3 2 3 3 3 2\nb\nend\n")
     ∷ [])
 unfolding digits no_order marks_of
-texts_with_time = (refl, (refl, (refl, (refl, tt))))
+texts_with_time = (refl, (refl, (refl, (refl, (refl, tt)))))
 
 -- in version 5: what else has a target that may wait
 texts_of_waiting_targets : HaveTexts (
@@ -178,10 +186,10 @@ order_splits : AreNodes (
     ∷ (Five, Real, codes "o 1", None) ∷ (Five, Real, codes "o 1 2 3", None) ∷ (Five, Real, codes "o", None) ∷ (Four, Real, codes "o 1 2", None) ∷ (Five, Ticks, codes "o 1 2", None) ∷ [])
 order_splits = (refl, (refl, (refl, (refl, (refl, (refl, (refl, (refl, (refl, tt)))))))))
 
--- a split is after 1 to 16 in versions 1 to 3, of a packet up to 1,023, and after 0 to 65,535 in version 4, of a packet up to 1,039
+-- a split is after 1 to 16 in versions 1 to 3, of a packet up to 1,023, and after 0 to 65,535 in version 4, of a packet up to 1,167
 splits : AreNodes (
     (Three, Ticks, codes "s 0 17", None) ∷ (Three, Ticks, codes "s 0 0", None) ∷ (Three, Ticks, codes "s 1024 1", None)
-    ∷ (Four, Real, codes "s 0 65535", Some (Some (Split 0 65_535))) ∷ (Four, Ticks, codes "s 1039 0", Some (Some (Split 1_039 0))) ∷ (Four, Ticks, codes "s 1040 1", None) ∷ [])
+    ∷ (Four, Real, codes "s 0 65535", Some (Some (Split 0 65_535))) ∷ (Four, Ticks, codes "s 1167 0", Some (Some (Split 1_167 0))) ∷ (Four, Ticks, codes "s 1168 1", None) ∷ [])
 splits = (refl, (refl, (refl, (refl, (refl, (refl, tt))))))
 
 -- no order has these lists of ranks: one with a rank too few, one with a rank that is too great, and one of ranks that are all 0 and written out
@@ -213,10 +221,11 @@ read_whole version = whole version (target_waiting Ticks).scenario (Bound ∷ []
 versions_of_waiting_targets : (read_whole Four ≡ Err (faults.Line 1 expected.Convoy)) × (read_whole Five ≡ Ok (Bound ∷ []))
 versions_of_waiting_targets = (refl, refl)
 
--- a text of no bytes; a delay that begins with 0, and one after two spaces; a line `multicast` that is cut off, and one of a message that may wait; a line `link` in version 1, and one that has not its form
+-- a text of no bytes; a delay that begins with 0, and one after two spaces; a line `multicast` that is cut off, and one of a message that may wait; a line `link` in version 1, and one that has not its form; one for stamps, too, in version 2, and one of them from clients in version 4
 others : HaveFaults (
     ([], 1, expected.Convoy) ∷ (codes "convoy 1\ndelay 03\n", 2, expected.Delay) ∷ (codes "convoy 1\ndelay  3\n", 2, expected.Delay)
     ∷ (head ++ codes "multicast", 7, expected.Multicast) ∷ (codes "convoy 3\ndelay 3\ngroups a b\nmulticast y a 6..8 a b\n", 4, expected.Multicast)
-    ∷ (codes "convoy 1\ndelay 3\ngroups a b\nlink b a 1 1\n", 4, expected.Multicast) ∷ (codes "convoy 2\ndelay 3\ngroups a b\nlink b a 1\n", 4, expected.Link) ∷ [])
+    ∷ (codes "convoy 1\ndelay 3\ngroups a b\nlink b a 1 1\n", 4, expected.Multicast) ∷ (codes "convoy 2\ndelay 3\ngroups a b\nlink b a 1\n", 4, expected.Link)
+    ∷ (codes "convoy 2\ndelay 3\ngroups a b\nlink b b 1 2 stamps\n", 4, expected.Link) ∷ (codes "convoy 4\ntime ticks\ndelay 3\ngroups a b\nlink client a 1 2 stamps\n", 5, expected.Link) ∷ [])
 unfolding certificate_of scenario_at links_in messages_in nodes_in ranges_of packets_of
-others = (refl, (refl, (refl, (refl, (refl, (refl, (refl, tt)))))))
+others = (refl, (refl, (refl, (refl, (refl, (refl, (refl, (refl, (refl, tt)))))))))

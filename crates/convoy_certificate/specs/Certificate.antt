@@ -18,7 +18,7 @@ pub record Certificate : Type 0 where
   pub schedule : Schedule
   pub nodes : List Node
 
--- the greatest number of a packet that a split names, where time is real or some message may wait, and else
+-- the greatest number of a packet that a split names, where the text says how time goes, and else
 abbrev pub greatest_packet : Bool → ℕ
 greatest_packet true = GREATEST_PACKET
 greatest_packet false = GREATEST_UNTIMED_PACKET
@@ -33,7 +33,7 @@ abbrev pub greatest_place : Bool → ℕ
 greatest_place true = GREATEST_DELAY
 greatest_place false = GREATEST_WHOLE_DELAY
 
--- a node where time is real or some message may wait, or not, and time goes so: a split names a packet, and cuts, within the limits; a split by order is of real time alone, and its numbers of moments ascend; a stamp leaf is of whole ticks alone; a latency has 32 bits
+-- a node where the text says how time goes, or not, and time goes so: a split names a packet, and cuts, within the limits; a split by order is of real time alone, and its numbers of moments ascend; a stamp leaf is of whole ticks alone; a latency has 32 bits
 abbrev pub IsNodeWhere : Bool → Time → Node → Type 0
 IsNodeWhere timed time (Split packet at) = (packet ≤ greatest_packet timed) × (least_place timed ≤ at) × (at ≤ greatest_place timed)
 IsNodeWhere timed time (Order first second) = (time ≡ Real) × (first < second) × (second ≤ GREATEST_MOMENT)

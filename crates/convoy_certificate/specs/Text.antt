@@ -41,7 +41,7 @@ timed_version time true nodes = Five
 timed_version Real false nodes = if list_any decides_ties nodes then Five else Four
 timed_version Ticks false nodes = Four
 
--- the version for so many links and for nodes, where time goes so: 4 or 5 where it is real or some message may wait, by whether the target may; else 3 where the tree has a lead leaf, and else 1 where there is no link and the tree has no stamp leaf, and 2 where one of them is there
+-- the version for so many links and for nodes, where time goes so: 4 or 5 where the text says so, by whether the target may wait; else 3 where the tree has a lead leaf, and else 1 where there is no link and the tree has no stamp leaf, and 2 where one of them is there
 abbrev pub version_for : Time → Bool → Bool → ℕ → List Node → Version
 version_for time true waits links nodes = timed_version time waits nodes
 version_for time false waits links nodes =

@@ -23,10 +23,10 @@ pub const LONGEST_TEXT: usize = 67_108_864;
 /// What a certificate says: a scenario, the greatest latency of its target, in ticks, a schedule that
 /// has it, and the nodes of a tree that shows that no other schedule has a greater one.
 ///
-/// The schedule is an assignment of the scenario. Where time goes in whole ticks and no message may
-/// wait, each split names a packet number from 0 to `GREATEST_UNTIMED_PACKET` and cuts after 1 to
-/// `GREATEST_WHOLE_DELAY` ticks; else it names one from 0 to `GREATEST_PACKET`, and cuts after 0 to
-/// `GREATEST_DELAY` ticks. Splits by order are of real time alone, each of two numbers of moments that
+/// The schedule is an assignment of the scenario. Where time goes in whole ticks, no message may wait
+/// and no group's own stamps take time, each split names a packet number from 0 to
+/// `GREATEST_UNTIMED_PACKET` and cuts after 1 to `GREATEST_WHOLE_DELAY` ticks; else it names one from 0
+/// to `GREATEST_PACKET`, and cuts after 0 to `GREATEST_DELAY` ticks. Splits by order are of real time alone, each of two numbers of moments that
 /// ascend, and stamp leaves of whole ticks alone. Nothing else is known of the nodes: they may be no
 /// tree, and there may be none.
 #[derive(Drop)]
@@ -86,8 +86,8 @@ impl Certificate {
     }
 
     /// The version in which the certificate is written: `Five` where its scenario's target may wait, or time is real
-    /// there and its tree has a split by order or a point leaf. Else `Four` where time is real or one of the messages
-    /// may wait; else `Three` where the tree has a lead leaf; else `Two` where the scenario has a link or
+    /// there and its tree has a split by order or a point leaf. Else `Four` where time is real, one of the messages
+    /// may wait or some group's own stamps take time; else `Three` where the tree has a lead leaf; else `Two` where the scenario has a link or
     /// the tree a stamp leaf; else `One` (docs/FORMATS.md, "Certificate text").
     pub fn version(&self) -> Version
         ensures { result ≡ version_of self.now }
@@ -149,8 +149,8 @@ pub(crate) fn target_waits(scenario: &Scenario) -> bool
     may_wait(scenario, scenario.target_message())
 }
 
-/// The version for so many links and for these nodes, where time goes so, and is real or some message
-/// may wait, or not, and the target may wait or not.
+/// The version for so many links and for these nodes, where time goes so, the text says so or not, and
+/// the target may wait or not.
 pub(crate) fn version_for(
     time: Time,
     timed: bool,

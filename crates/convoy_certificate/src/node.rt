@@ -1,8 +1,9 @@
-/// The greatest number of a packet that a split may name.
-pub const GREATEST_PACKET: u16 = 1_039;
+/// The greatest number of a packet that a split may name: the last place of a list of `MOST_PACKETS`
+/// packets.
+pub const GREATEST_PACKET: u16 = 1_167;
 
-/// The greatest number of a packet that a split may name where time goes in whole ticks and no message
-/// may wait: no wait has a place in the schedule.
+/// The greatest number of a packet that a split may name where the text does not say how time goes: no
+/// wait has a place in the schedule there, and no stamp that a group sends to itself.
 pub const GREATEST_UNTIMED_PACKET: u16 = 1_023;
 
 /// The greatest number of a moment that a split by order may name: its place in the line of the order

@@ -1,5 +1,5 @@
 -- What is written of a ceiling, from what its calls answered.
-use Rattle.std.proofs.Common.{◌≡◌, ◌≤◌, ◌==◌, ℕ, List, Option, Ok, if◌then◌else◌, sym, subst, ap, ◌∙◌}
+use Rattle.std.proofs.Common.{◌≡◌, ◌≤◌, ◌==◌, ℕ, List, Option, unwrap_or, Ok, if◌then◌else◌, sym, subst, ap, ◌∙◌}
 use Rattle.convoy_draft.specs.declared.duration.TimeUnit.{TimeUnit}
 use Rattle.convoy_times.specs.Measures.{measure_by}
 use Rattle.convoy_times.specs.declared.measure.Measure.{Measure}
@@ -10,6 +10,8 @@ use Rattle.convoy_toml.specs.Reading.{deadlines_of_text, scenario_of_text_by, un
 use Rattle.convoy_sim.specs.Record.{Record}
 use Rattle.convoy_ceiling.specs.Ceiling.{IsUpperInTraffic, ceiling_of}
 use Rattle.convoy_ceiling.specs.Finding.{IsFound}
+use Rattle.convoy_outages.specs.declared.outage.Outage.{Outage}
+use Rattle.convoy_outages.specs.Spans.{IsThrough}
 use Rattle.convoy_commands.specs.declared.done.Done.{Done}
 use Rattle.convoy_commands.specs.declared.done.Done.TheVariants.{Fine, Open}
 use Rattle.convoy_commands.specs.Ceilings.{IsCeilingTold, ceiling_text}
@@ -27,21 +29,30 @@ pub deadline_in : (asked : Asked) (text : List ℕ) (plan : Scenario) (deadlines
     deadline ≡ target_deadline asked text plan
 deadline_in asked text plan deadlines message deadline are is found = rw (are, is) at found
 
-pub ceiling_told : (asked : Asked) (unit in_text : Option TimeUnit) (measure : Option Measure) (deadline : Option ℕ) (text out : List ℕ)
-    (plan made : Scenario) (found : Record) (ceiling latency : ℕ) (end done : Done)
+-- the ceiling through outages of the target of a scenario
+through_target : (outage : Option Outage) (plan : Scenario) (message group : ℕ) (through : Option ℕ) → message ≡ plan.target_message → group ≡ plan.target_group →
+    IsThrough outage plan message group through → IsThrough outage plan plan.target_message plan.target_group through
+through_target outage plan message group through of_message of_group is =
+    subst (λ (g : ℕ). IsThrough outage plan plan.target_message g through) of_group (subst (λ (m : ℕ). IsThrough outage plan m group through) of_message is)
+
+pub ceiling_told : (outage : Option Outage) (asked : Asked) (unit in_text : Option TimeUnit) (measure : Option Measure) (deadline through : Option ℕ) (text out : List ℕ)
+    (plan made : Scenario) (found : Record) (message group ceiling latency most : ℕ) (end done : Done)
     → scenario_of_text_by asked text ≡ Ok plan → in_text ≡ unit_written text → measure ≡ measure_by unit in_text plan → deadline ≡ target_deadline asked text plan
     → IsScenario plan → IsUpperInTraffic plan plan.target_message plan.target_group (ceiling_of plan)
-    → IsFound plan made found → found.latency ≤ ceiling_of plan → ceiling ≡ ceiling_of plan → latency ≡ found.latency
-    → out ≡ ceiling_text measure deadline plan found → end ≡ (if latency == ceiling then Fine else Open) → done ≡ judged deadline latency ceiling end
-    → IsCeilingTold asked unit text out done
-ceiling_told asked unit in_text measure deadline text out plan made found ceiling latency end done read written_in measured within lawful safe is no_greater of_plan attained written ends judged_so = record {
+    → message ≡ plan.target_message → group ≡ plan.target_group → IsThrough outage plan message group through
+    → IsFound plan made found → found.latency ≤ ceiling_of plan → ceiling ≡ ceiling_of plan → latency ≡ found.latency → most ≡ unwrap_or through ceiling
+    → out ≡ ceiling_text measure deadline through plan found → end ≡ (if latency == ceiling then Fine else Open) → done ≡ judged deadline latency most end
+    → IsCeilingTold outage asked unit text out done
+ceiling_told outage asked unit in_text measure deadline through text out plan made found message group ceiling latency most end done read written_in measured within lawful safe of_message of_group is_through is no_greater of_plan attained greatest written ends judged_so = record {
   scenario = plan;
   read = read;
   lawful = lawful;
   safe = safe;
+  through = through;
+  safe_through = through_target outage plan message group through of_message of_group is_through;
   traffic = found;
   found = subst (λ (t : Scenario). IsFound plan t found) (sym is.of_traffic) is;
   within = no_greater;
   written = rw (measured_by unit in_text text plan measure written_in measured, within) at written;
-  ended = rw (ends, attained, of_plan, within) at judged_so;
+  ended = rw (ends, greatest, attained, of_plan, within) at judged_so;
 }

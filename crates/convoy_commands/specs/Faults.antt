@@ -27,11 +27,12 @@ use Rattle.convoy_traces.specs.declared.fault.Cause.{Cause as Trace-cause}
 use Rattle.convoy_traces.specs.declared.fault.Cause.TheVariants as trace_lines
 use Rattle.convoy_traces.specs.declared.fault.TraceFault.{TraceFault}
 use Rattle.convoy_traces.specs.declared.fault.TraceFault.TheVariants as traces
+use Rattle.convoy_outages.specs.declared.outage.OutageFault.TheVariants as outages
 use Rattle.convoy_commands.specs.declared.fault.FaultEnding.{FaultEnding}
 use Rattle.convoy_commands.specs.declared.fault.FaultEnding.TheVariants as endings
 use Rattle.convoy_commands.specs.declared.fault.OrderFault.TheVariants as orders
 use Rattle.convoy_commands.specs.declared.fault.Fault.{Fault}
-use Rattle.convoy_commands.specs.declared.fault.Fault.TheVariants.{Scenario, Schedule, Order, Reading, Write, TooManyJobs, Sweep, Ranges, Plan, Kinds, Trace, Memory}
+use Rattle.convoy_commands.specs.declared.fault.Fault.TheVariants.{Scenario, Schedule, Order, Reading, Write, TooManyJobs, Sweep, Ranges, Plan, Kinds, Trace, Outage, Memory}
 use Rattle.convoy_commands.specs.declared.fault.SweepCause.{SweepCause}
 use Rattle.convoy_commands.specs.declared.fault.SweepCause.TheVariants as sweeps
 
@@ -44,6 +45,7 @@ limit_word limits.Multicasts = codes "multicasts"
 limit_word limits.At = codes "at"
 limit_word limits.Until = codes "until"
 limit_word limits.Link = codes "link"
+limit_word limits.Agree = codes "agree"
 limit_word limits.Tick = codes "tick"
 
 -- the number and the text of memory that ran out, wherever it did
@@ -182,6 +184,8 @@ row_of (Ranges cause) = row_of_ranges cause
 row_of (Plan cause) = row_of_plan cause
 row_of (Kinds cause) = row_of_kinds cause
 row_of (Trace cause) = row_of_trace cause
+row_of (Outage outages.Unmeasured) = (67, codes "outage without a length of ticks")
+row_of (Outage outages.TooLong) = (68, codes "outage over limit")
 row_of (Reading reading.Memory) = memory_row
 row_of Memory = memory_row
 

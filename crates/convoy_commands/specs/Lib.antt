@@ -28,6 +28,9 @@ pub use Rattle.convoy_sim.specs.Record
 pub use Rattle.convoy_ceiling.specs.Ceiling
 pub use Rattle.convoy_ceiling.specs.Targets
 pub use Rattle.convoy_ceiling.specs.Finding
+pub use Rattle.convoy_outages.specs.Outages
+pub use Rattle.convoy_outages.specs.OutageCeiling
+pub use Rattle.convoy_outages.specs.Spans as OutageSpans
 pub use Rattle.convoy_toml_writer.specs.Text as ScenarioText
 pub use Rattle.convoy_timeline.specs.Timeline
 pub use Rattle.convoy_timeline.specs.Causes

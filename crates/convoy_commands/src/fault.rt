@@ -2,6 +2,7 @@ ghost use Rattle.std.specs.Prelude.{◌≡◌, ◌≤◌, ◌++◌, length, OnOk
 ghost use Rattle.convoy_commands.specs.Faults.{IsShortEnding, ending_text, fault_line_of, kinds_limit_word, limit_word, plan_limit_word, row_of, row_of_kinds, row_of_line, row_of_plan, row_of_ranges, row_of_scenario, row_of_trace, row_of_trace_line, sweep_word, told_of_order};
 
 use convoy_kinds::{KindsFault, KindsLimit};
+use convoy_outages::OutageFault;
 use convoy_packets::ListFault;
 use convoy_plans::{PlanFault, PlanLimit};
 use convoy_ranges::{Cause, RangesFault};
@@ -52,6 +53,9 @@ pub enum Fault {
     /// The text is no trace of runs of the scenario.
     #[error(transparent)]
     Trace(TraceFault),
+    /// No ceiling through outages that last so long can be told.
+    #[error(transparent)]
+    Outage(OutageFault),
     /// Memory ran out, which says nothing of the input.
     #[error("out of memory")]
     Memory,
@@ -208,6 +212,17 @@ impl From<TraceFault> for Fault {
     }
 }
 
+impl From<OutageFault> for Fault {
+    ghost use Rattle.std.specs.Prelude.{◌≡◌};
+    ghost use Rattle.convoy_commands.specs.declared.fault.Fault.TheVariants.{Outage};
+
+    ghost from_gives = { λ cause fault. fault ≡ Outage cause };
+
+    fn from(cause: OutageFault) -> Self {
+        Fault::Outage(cause)
+    }
+}
+
 impl From<ListFault> for Fault {
     ghost use Rattle.std.specs.Prelude.{◌≡◌};
     ghost use Rattle.convoy_commands.specs.Faults.{told_of_list};
@@ -297,6 +312,8 @@ pub fn fault_row(fault: &Fault) -> (u8, &'static str, FaultEnding)
         Fault::Plan(cause) => plan_row(*cause),
         Fault::Kinds(cause) => kinds_row(*cause),
         Fault::Trace(cause) => trace_row(*cause),
+        Fault::Outage(OutageFault::Unmeasured) => (67, "outage without a length of ticks", NOTHING),
+        Fault::Outage(OutageFault::TooLong) => (68, "outage over limit", NOTHING),
         Fault::Memory | Fault::Schedule(ListFault::Memory) | Fault::Reading(ReadFault::Memory) => (
             11,
             "out of memory",
@@ -511,6 +528,7 @@ fn word_of_limit(limit: Limit) -> &'static str
         Limit::At => "at",
         Limit::Until => "until",
         Limit::Link => "link",
+        Limit::Agree => "agree",
         Limit::Tick => "tick",
     }
 }

@@ -1,5 +1,5 @@
 -- A scenario as it is written, with names in place of numbers: what stands in it before any rule is asked.
-use Rattle.std.specs.Prelude.{ℕ, ℤ, List, Option}
+use Rattle.std.specs.Prelude.{ℕ, ℤ, Bool, List, Option}
 use Rattle.convoy_draft.specs.declared.time.Time.{Time}
 
 -- a message as it is written: its name, the group that sends it (none for a client), the groups that it goes to, and the first and the last tick at which it may be issued
@@ -10,12 +10,13 @@ pub record DraftMessage : Type 0 where
   pub at : ℤ
   pub until : ℤ
 
--- a link as it is written: the group that sends (none for a client), the group that it leads to, and the least and the greatest delay
+-- a link as it is written: the group that sends (none for a client), the group that it leads to, the least and the greatest delay, and whether the group's own stamps go by it, too, where it leads from a group to itself
 pub record DraftLink : Type 0 where
   pub sender : Option (List ℕ)
   pub to : List ℕ
   pub least : ℤ
   pub most : ℤ
+  pub stamps : Bool
 
 -- a scenario as it is written
 pub record Draft : Type 0 where

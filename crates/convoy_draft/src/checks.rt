@@ -281,7 +281,8 @@ fn has_range(delay: i64, link: &DraftLink) -> bool
     1 <= link.least && link.least <= link.most && link.most <= delay
 }
 
-fn all_have_ranges(delay: i64, links: &[DraftLink]) -> bool
+/// Whether each link has a range within D: a least delay of 1 tick or more, and a greatest one from there to D.
+pub fn all_have_ranges(delay: i64, links: &[DraftLink]) -> bool
     ensures { result ≡ list_all (has_range delay) links.now }
 {
     links.iter().all(|link| has_range(delay, link))

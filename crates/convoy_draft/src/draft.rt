@@ -36,12 +36,15 @@ pub struct DraftLink {
     pub least: i64,
     /// The greatest delay, in ticks.
     pub most: i64,
+    /// Of a link from a group to itself: whether the group's own stamps go by it, too, and not just the messages that the
+    /// group sends to itself. Stamps to other groups go by links in any case.
+    pub stamps: bool,
 }
 
 impl Model for DraftLink {
     ghost Value = { DraftLink };
 
-    ghost view = { λ l. record { sender = l.sender; to = l.to; least = l.least; most = l.most } };
+    ghost view = { λ l. record { sender = l.sender; to = l.to; least = l.least; most = l.most; stamps = l.stamps } };
 }
 
 /// A scenario as it is written, with names in place of numbers, before any rule is asked of it

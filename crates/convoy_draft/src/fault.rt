@@ -31,6 +31,9 @@ pub enum Key {
     Least,
     Most,
     Both,
+    Stamps,
+    Agree,
+    Steps,
     Schedule,
     Order,
     /// A key that a scenario text may not have.
@@ -58,6 +61,9 @@ pub enum Limit {
     /// There are at most `MOST_LINKS` lines `link`; the least delay of a link is 1 or more, and its
     /// greatest not less and at most D.
     Link,
+    /// What the replicas of a group need to agree on an entry takes 1 tick or more, and at its longest no less than at its
+    /// shortest.
+    Agree,
     /// A tick has a length only where time is real. It is 1 nanosecond or more, at most
     /// `LONGEST_DURATION`, and at most `MOST_UNITS` of its unit.
     Tick,
@@ -137,6 +143,9 @@ impl Key {
             Key::Least => "least",
             Key::Most => "most",
             Key::Both => "both",
+            Key::Stamps => "stamps",
+            Key::Agree => "agree",
+            Key::Steps => "steps",
             Key::Schedule => "schedule",
             Key::Order => "order",
             Key::Unknown => "unknown",
@@ -171,6 +180,10 @@ impl fmt::Display for Limit {
             Limit::Link => write!(
                 f,
                 "there are at most {MOST_LINKS} links, each with 1 <= least <= most <= delay"
+            ),
+            Limit::Agree => write!(
+                f,
+                "replicas agree on an entry in 1 tick or more, and no later than the greatest time that is written"
             ),
             Limit::Tick => write!(
                 f,

@@ -2,7 +2,7 @@
 //! draft, which has names in place of numbers, and the first rule that a draft breaks.
 #![tactic(auto)]
 
-pub use checks::{check, delay_ticks, is_named_alike, is_within, ticks};
+pub use checks::{all_have_ranges, check, delay_ticks, is_named_alike, is_within, ticks};
 pub use draft::{DraftLink, DraftMulticast, DraftScenario};
 pub use duration::{Duration, LONGEST_DURATION, MOST_UNITS, TimeUnit};
 pub use fault::{Key, Limit, ScenarioFault};

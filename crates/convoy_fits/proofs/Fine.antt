@@ -1,13 +1,14 @@
 -- What the test of a scenario in fine ticks tells.
-use Rattle.std.proofs.Common.{◌≡◌, ℕ, zero, suc, ◌+◌, ◌*◌, ◌==◌, leb, leb-true, Bool, true, false, ◌&&◌, List, [], ◌∷◌, length, get_or, Option, Some, None, is_some, inl, inr, refl, sym, ap, ap₂, ◌∙◌}
+use Rattle.std.proofs.Common.{◌≡◌, ℕ, zero, suc, ◌+◌, ◌*◌, ◌==◌, leb, leb-true, Bool, true, false, ◌&&◌, ◌||◌, not, List, [], ◌∷◌, length, get_or, Option, Some, None, is_some, inl, inr, refl, sym, ap, ap₂, ◌∙◌}
 use Rattle.std.specs.List.{AllZip, list_all, list_any, slice_get}
+use Rattle.std.specs.Option.{option_map_or}
 use Rattle.std.specs.Str.{bytes_eq}
-use Rattle.std.proofs.lemmas.Bool.{and_parts, both_ways, cases_Bool, eq-eqb, eqb-true, false≢true, false_from_ne_true}
+use Rattle.std.proofs.lemmas.Bool.{and_parts, cases_Bool, eq-eqb, eqb-true, false≢true}
 use Rattle.convoy_draft.specs.declared.time.Time.{Time}
 use Rattle.convoy_draft.specs.declared.time.Time.TheVariants.{Ticks, Real}
 use Rattle.convoy_scenario.specs.declared.sender.Sender.{Sender}
 use Rattle.convoy_scenario.specs.declared.sender.Sender.TheVariants.{Client, Group}
-use Rattle.convoy_scenario.specs.Scenario.{Link, Message, Scenario, is_same_sender, link_between, message_at, no_message, takes_time}
+use Rattle.convoy_scenario.specs.Scenario.{HaveSameHomes, Link, Message, Scenario, is_same_sender, link_between, message_at, no_message, stamp_takes_time, takes_time}
 use Rattle.convoy_scenario.proofs.TakingTime.{same_takes}
 use Rattle.convoy_scenario.specs.WellFormed.{IsScenario}
 use Rattle.convoy_packets.specs.declared.packet.Packet.{Packet}
@@ -18,7 +19,7 @@ use Rattle.convoy_packets.specs.ScheduleLaws.{is_sent}
 use Rattle.convoy_packets.proofs.Places.{stands_where_found}
 use Rattle.convoy_packets.proofs.Sent.{found_if_sent}
 use Rattle.convoy_laws.specs.FinerTicks.{IsFiner, IsFinerMessage, IsInRange}
-use Rattle.convoy_fits.specs.Finer.{all_take_time, are_finer_messages, has_finer_range, have_same_homes, is_finer, is_finer_message, is_real}
+use Rattle.convoy_fits.specs.Finer.{all_take_time, are_finer_messages, has_finer_range, have_same_homes, is_finer, is_finer_message, is_real, takes_too}
 use Rattle.convoy_fits.specs.Runs.{IsRealRun}
 
 real_is : (t : Time) → is_real t ≡ true → t ≡ Real
@@ -65,7 +66,7 @@ finer_messages factor (m ∷ ms) (f ∷ fs) e =
     let p = and_parts (is_finer_message factor m f) (are_finer_messages factor ms fs) e in
     (finer_message factor m f p.0, finer_messages factor ms fs p.1)
 
-pub like_at : (factor : ℕ) (ms fs : List Message) (m : ℕ) → AllZip (IsFinerMessage factor) ms fs
+like_at : (factor : ℕ) (ms fs : List Message) (m : ℕ) → AllZip (IsFinerMessage factor) ms fs
     → ((get_or fs m no_message).sender ≡ (get_or ms m no_message).sender) × ((get_or fs m no_message).destinations ≡ (get_or ms m no_message).destinations)
 like_at factor [] [] m h = (refl, refl)
 like_at factor [] (f ∷ fs) m h = absurd h
@@ -73,46 +74,69 @@ like_at factor (x ∷ ms) [] m h = absurd h
 like_at factor (x ∷ ms) (f ∷ fs) zero h = (h.0.sender, h.0.destinations)
 like_at factor (x ∷ ms) (f ∷ fs) (suc m) h = like_at factor ms fs m h.1
 
--- a message is a packet of both, or of none
-pub sent_too : (factor : ℕ) (scenario finer : Scenario) → AllZip (IsFinerMessage factor) scenario.multicasts finer.multicasts
-    → ((g : ℕ) → takes_time finer (Group g) g ≡ takes_time scenario (Group g) g) → (m g : ℕ) → is_sent finer (Multicast m g) ≡ is_sent scenario (Multicast m g)
-sent_too factor scenario finer messages home m g =
+-- a packet that travels is one of both, or of none
+pub sent_too : (factor : ℕ) (scenario finer : Scenario) → AllZip (IsFinerMessage factor) scenario.multicasts finer.multicasts → HaveSameHomes scenario finer
+    → (packet : Packet) → is_wait packet ≡ false → is_sent finer packet ≡ is_sent scenario packet
+sent_too factor scenario finer messages homes (Wait m) travels = absurd cc
+sent_too factor scenario finer messages homes (Multicast m g) travels =
     let l = like_at factor scenario.multicasts finer.multicasts m messages in
     ap₂ (λ a b. a && b) (ap (λ (hs : List ℕ). list_any (λ h. h == g) hs) l.1)
-    (same_takes scenario finer home (message_at finer m).sender g ∙ ap (λ (sender : Sender). takes_time scenario sender g) l.0)
+    ((same_takes scenario finer homes).messages (message_at finer m).sender g ∙ ap (λ (sender : Sender). takes_time scenario sender g) l.0)
+sent_too factor scenario finer messages homes (Propose m h g) travels =
+    let l = like_at factor scenario.multicasts finer.multicasts m messages in
+    ap₂ (λ a b. a && b) (ap (λ (hs : List ℕ). list_any (λ k. k == h) hs && list_any (λ k. k == g) hs) l.1)
+    ((same_takes scenario finer homes).stamps h g)
 
 -- ---- links from a group to itself
 
 -- where what goes by any link of the one scenario takes time in the other, a group with a link to itself has one there
-home_there : (scenario other : Scenario) (g : ℕ) → all_take_time other scenario.links ≡ true → takes_time scenario (Group g) g ≡ true → takes_time other (Group g) g ≡ true
-home_there scenario other g all takes = of_links scenario.links all (rw (eq-eqb g g refl) at takes) where
-  of_links : (links : List Link) → all_take_time other links ≡ true → is_some (link_between links (Group g) g) ≡ true → takes_time other (Group g) g ≡ true
-  of_links [] all some = absurd (false≢true some)
-  of_links (link ∷ links) all some =
-      let parts = and_parts (takes_time other link.sender link.to) (all_take_time other links) all in
-      elim (cases_Bool (is_same_sender (Group g) link.sender && (g == link.to))) [
-        | inl here ↦
-            let ends = and_parts (is_same_sender (Group g) link.sender) (g == link.to) here in
-            let from : Group g ≡ link.sender = same_senders (Group g) link.sender ends.0 in
-            let there : g ≡ link.to = eqb-true g link.to ends.1 in
-            ap₂ (λ (sender : Sender) (to : ℕ). takes_time other sender to) from there ∙ parts.0
-        | inr away ↦ of_links links parts.1 (rw away at some)
-      ]
+module _ (scenario other : Scenario) (all_too : all_take_time other scenario.links ≡ true) (g : ℕ) where
+  message_there : takes_time scenario (Group g) g ≡ true → takes_time other (Group g) g ≡ true
+  message_there takes = of_links scenario.links all_too (rw (eq-eqb g g refl) at takes) where
+    of_links : (links : List Link) → all_take_time other links ≡ true → is_some (link_between links (Group g) g) ≡ true → takes_time other (Group g) g ≡ true
+    of_links [] all some = absurd (false≢true some)
+    of_links (link ∷ links) all some =
+        let parts = and_parts (takes_too other link) (all_take_time other links) all in
+        elim (cases_Bool (is_same_sender (Group g) link.sender && (g == link.to))) [
+          | inl here ↦
+              let ends = and_parts (is_same_sender (Group g) link.sender) (g == link.to) here in
+              let from : Group g ≡ link.sender = same_senders (Group g) link.sender ends.0 in
+              let there : g ≡ link.to = eqb-true g link.to ends.1 in
+              ap₂ (λ (sender : Sender) (to : ℕ). takes_time other sender to) from there
+              ∙ (and_parts (takes_time other link.sender link.to) (not link.stamps || stamp_takes_time other link.to link.to) parts.0).0
+          | inr away ↦ of_links links parts.1 (rw away at some)
+        ]
 
-same_home : (scenario finer : Scenario) → have_same_homes scenario finer ≡ true → (g : ℕ) → takes_time finer (Group g) g ≡ takes_time scenario (Group g) g
-same_home scenario finer e g =
+  stamp_there : stamp_takes_time scenario g g ≡ true → stamp_takes_time other g g ≡ true
+  stamp_there takes = of_links scenario.links all_too (rw (eq-eqb g g refl) at takes) where
+    of_links : (links : List Link) → all_take_time other links ≡ true → option_map_or (λ (link : Link). link.stamps) (link_between links (Group g) g) false ≡ true
+        → stamp_takes_time other g g ≡ true
+    of_links [] all some = absurd (false≢true some)
+    of_links (link ∷ links) all some =
+        let parts = and_parts (takes_too other link) (all_take_time other links) all in
+        elim (cases_Bool (is_same_sender (Group g) link.sender && (g == link.to))) [
+          | inl here ↦
+              let there : g ≡ link.to = eqb-true g link.to (and_parts (is_same_sender (Group g) link.sender) (g == link.to) here).1 in
+              let for_stamps : link.stamps ≡ true = rw here at some in
+              let too = (and_parts (takes_time other link.sender link.to) (not link.stamps || stamp_takes_time other link.to link.to) parts.0).1 in
+              ap (λ (to : ℕ). stamp_takes_time other to to) there ∙ (rw for_stamps at too)
+          | inr away ↦ of_links links parts.1 (rw away at some)
+        ]
+
+both_or_none : (a b : Bool) → (a ≡ true → b ≡ true) → (b ≡ true → a ≡ true) → b ≡ a
+both_or_none true b there back = there refl
+both_or_none false true there back = sym (back refl)
+both_or_none false false there back = refl
+
+same_homes : (scenario finer : Scenario) → have_same_homes scenario finer ≡ true → HaveSameHomes scenario finer
+same_homes scenario finer e =
     let parts = and_parts (all_take_time scenario finer.links) (all_take_time finer scenario.links) e in
-    elim (cases_Bool (takes_time scenario (Group g) g)) [
-      | inl takes ↦ home_there scenario finer g parts.1 takes ∙ sym takes
-      | inr none ↦ false_from_ne_true _ (λ takes. both_ways _ none (home_there finer scenario g parts.0 takes)) ∙ sym none
-    ]
-
-module _ (factor : ℕ) (scenario finer : Scenario) (messages : AllZip (IsFinerMessage factor) scenario.multicasts finer.multicasts)
-    (home : (g : ℕ) → takes_time finer (Group g) g ≡ takes_time scenario (Group g) g) where
-  sent_same : (packet : Packet) → is_wait packet ≡ false → is_sent scenario packet ≡ true → is_sent finer packet ≡ true
-  sent_same (Wait m) travels e = absurd cc
-  sent_same (Multicast m g) travels e = sent_too factor scenario finer messages home m g ∙ e
-  sent_same (Propose m h g) travels e = let l = like_at factor scenario.multicasts finer.multicasts m messages in rw l.1 e
+    record {
+      messages = λ g.
+          both_or_none (takes_time scenario (Group g) g) (takes_time finer (Group g) g) (message_there scenario finer parts.1 g) (message_there finer scenario parts.0 g);
+      stamps = λ g.
+          both_or_none (stamp_takes_time scenario g g) (stamp_takes_time finer g g) (stamp_there scenario finer parts.1 g) (stamp_there finer scenario parts.0 g);
+    }
 
 some_is : (o : Option ℕ) → is_some o ≡ true → (i : ℕ) × (o ≡ Some i)
 some_is (Some i) e = (i, refl)
@@ -171,13 +195,13 @@ module _ (factor : ℕ) (scenario finer : Scenario) (holds : is_finer factor sce
   pub finer_from : IsFiner factor scenario finer
   finer_from =
       let zipped = finer_messages factor scenario.multicasts finer.multicasts parts.4 in
-      let home = same_home scenario finer parts.5 in
+      let homes = same_homes scenario finer parts.5 in
       record {
         some = leb-true 1 factor parts.1;
         groups = eqb-true (length finer.groups) (length scenario.groups) parts.2;
         messages = zipped;
-        home = home;
-        ranges = λ packet sent travels. range_in factor scenario finer packet parts.6 (sent_same factor scenario finer zipped home packet travels sent);
+        homes = homes;
+        ranges = λ packet sent travels. range_in factor scenario finer packet parts.6 (sent_too factor scenario finer zipped homes packet travels ∙ sent);
         target_message = target_message_kept;
         target_group = target_group_kept;
       }

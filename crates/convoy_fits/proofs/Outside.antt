@@ -25,7 +25,7 @@ use Rattle.convoy_fits.specs.declared.teller.Teller.TheVariants as tellers
 use Rattle.convoy_fits.specs.Skews.{corrected, is_same_teller, is_since, teller_of}
 use Rattle.convoy_fits.specs.Fits.{Fits, FitsWithin, time_told}
 use Rattle.convoy_fits.specs.Departures.{IsNearlyAfter, IsOutside, comes_as, explained, fine_range, in_fine_ticks, message_of, sent_by}
-use Rattle.convoy_fits.proofs.Fine.{like_at, sent_too}
+use Rattle.convoy_fits.proofs.Fine.{sent_too}
 
 same_event : (a b : Event) → is_same_event a b ≡ true → a ≡ b
 same_event Issue Issue e = refl
@@ -187,11 +187,7 @@ module _ (delays : DelaysAreWithin) (unsent : UnsentTakesNoTime) (waits : WaitsA
       rw (right_when m event c.0 told) c.2
 
   sent_alike : (packet : Packet) → is_wait packet ≡ false → is_sent fits.finer packet ≡ is_sent scenario packet
-  sent_alike (Wait m) travels = absurd cc
-  sent_alike (Multicast m g) travels = sent_too holds.other.factor scenario fits.finer fits.run.told_finer.messages fits.run.told_finer.home m g
-  sent_alike (Propose m h g) travels =
-      let l = like_at holds.other.factor scenario.multicasts fits.finer.multicasts m fits.run.told_finer.messages in
-      rw l.1 refl
+  sent_alike = sent_too holds.other.factor scenario fits.finer fits.run.told_finer.messages fits.run.told_finer.homes
 
   -- what a packet takes in the run is what it may
   takes : (packet : Packet) → is_wait packet ≡ false

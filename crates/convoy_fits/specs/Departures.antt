@@ -20,7 +20,7 @@ use Rattle.convoy_fits.specs.Skews.{IsSkewed, is_same_teller, teller_of}
 abbrev pub in_fine_ticks : ℕ → ℕ × ℕ → ℕ × ℕ
 in_fine_ticks factor range = (factor * range.0, factor * range.1)
 
--- what a packet may take, in fine ticks; what a group sends itself takes no time, unless it is a message and the group has a link to itself
+-- what a packet may take, in fine ticks; what a group sends itself takes no time, unless it has a link to itself that is for it
 abbrev pub fine_range : ℕ → Scenario → Packet → ℕ × ℕ
 fine_range factor scenario packet = if is_sent scenario packet then in_fine_ticks factor (range_of scenario packet) else (0, 0)
 

@@ -1,10 +1,10 @@
 -- The test of whether a scenario is told in fine ticks.
-use Rattle.std.specs.Prelude.{ℕ, ◌+◌, ◌*◌, ◌==◌, nat_le, Bool, true, false, ◌&&◌, List, [], ◌∷◌, length}
+use Rattle.std.specs.Prelude.{ℕ, ◌+◌, ◌*◌, ◌==◌, nat_le, Bool, true, false, ◌&&◌, ◌||◌, not, List, [], ◌∷◌, length}
 use Rattle.std.specs.List.{list_all}
 use Rattle.std.specs.Str.{bytes_eq}
 use Rattle.convoy_draft.specs.declared.time.Time.{Time}
 use Rattle.convoy_draft.specs.declared.time.Time.TheVariants.{Ticks, Real}
-use Rattle.convoy_scenario.specs.Scenario.{Link, Message, Scenario, is_same_sender, takes_time}
+use Rattle.convoy_scenario.specs.Scenario.{Link, Message, Scenario, is_same_sender, stamp_takes_time, takes_time}
 use Rattle.convoy_packets.specs.declared.packet.Packet.{Packet}
 use Rattle.convoy_packets.specs.Packets.{packets_of}
 use Rattle.convoy_packets.specs.Assignment.{range_of}
@@ -26,11 +26,14 @@ are_finer_messages factor [] (other ∷ others) = false
 are_finer_messages factor (message ∷ messages) [] = false
 are_finer_messages factor (message ∷ messages) (other ∷ others) = is_finer_message factor message other && are_finer_messages factor messages others
 
--- what goes by any of these links takes time in the scenario, too: a group that has one to itself has one there
-abbrev pub all_take_time : Scenario → List Link → Bool
-all_take_time scenario links = list_all (λ link. takes_time scenario link.sender link.to) links
+-- what goes by the link takes time in the scenario, too: a group that has one to itself has one there, for stamps where this one is
+abbrev pub takes_too : Scenario → Link → Bool
+takes_too scenario link = takes_time scenario link.sender link.to && (not link.stamps || stamp_takes_time scenario link.to link.to)
 
--- the same groups have links to themselves
+abbrev pub all_take_time : Scenario → List Link → Bool
+all_take_time scenario links = list_all (takes_too scenario) links
+
+-- the same groups have links to themselves, for messages alone or for stamps, too
 abbrev pub have_same_homes : Scenario → Scenario → Bool
 have_same_homes scenario finer = all_take_time scenario finer.links && all_take_time finer scenario.links
 

@@ -8,7 +8,7 @@ pub enum Departure {
     /// The message of that number was issued then, and may be from the first time on to the second.
     Window(usize, u32, u64, u64),
     /// The packet was sent at the first time and came at the second, and may take the least to the most that follow; what
-    /// a group sends itself takes no time, unless it is a message and the group has a link to itself.
+    /// a group sends itself takes no time, unless it has a link to itself that is for it.
     Packet(Packet, u32, u32, u64, u64),
     /// The run has at that moment what is told at another.
     Moment(Told, u64),

@@ -95,6 +95,7 @@ fn fine_link(
         to: draft_group(alloc, scenario, to)?,
         least: i64::from(least) * i64::from(factor),
         most: i64::from(most) * i64::from(factor),
+        stamps: sender == Sender::Group(to) && scenario.stamp_takes_time(to, to),
     })
 }
 
@@ -115,7 +116,7 @@ fn push_links(
 }
 
 /// The links of the scenario in fine ticks: one from each sender to each other group, and one from a group to itself where
-/// it has one. Fails where memory runs out, and else never.
+/// it has one, for stamps where that is. Fails where memory runs out, and else never.
 fn fine_links(alloc: Global, scenario: &Scenario, factor: u16) -> AllocResult<Vec<DraftLink>> {
     let mut links = Vec::new(alloc);
     push_links(alloc, scenario, factor, Sender::Client, &mut links)?;

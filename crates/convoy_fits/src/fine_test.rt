@@ -5,7 +5,7 @@ ghost use Rattle.std.specs.List.{list_all};
 ghost use Rattle.std.specs.Str.{bytes_eq};
 ghost use Rattle.convoy_scenario.specs.Scenario.{message_at};
 ghost use Rattle.convoy_packets.specs.Packets.{packets_of};
-ghost use Rattle.convoy_fits.specs.Finer.{all_take_time, are_finer_messages, has_finer_range, have_same_homes, is_finer, is_finer_message, is_real};
+ghost use Rattle.convoy_fits.specs.Finer.{all_take_time, are_finer_messages, has_finer_range, have_same_homes, is_finer, is_finer_message, is_real, takes_too};
 ghost use Rattle.convoy_fits.specs.Runs.{goes_there, is_there};
 
 use super::corrected::Corrected;
@@ -63,16 +63,22 @@ fn are_finer_messages(factor: u16, scenario: &Scenario, finer: &Instance) -> boo
     true
 }
 
+/// Whether what goes by the link takes time in the scenario, too, and where it is for stamps these do.
+fn takes_too(scenario: &Scenario, link: &Link) -> bool
+    ensures { result ≡ takes_too scenario.now link.now }
+{
+    scenario.takes_time(link.sender, link.to)
+        && (!link.stamps || scenario.stamp_takes_time(link.to, link.to))
+}
+
 /// Whether what goes by any of these links takes time in the scenario, too.
 fn all_take_time(scenario: &Scenario, links: &[Link]) -> bool
     ensures { result ≡ all_take_time scenario.now links.now }
 {
-    links
-        .iter()
-        .all(|link| scenario.takes_time(link.sender, link.to))
+    links.iter().all(|link| takes_too(scenario, link))
 }
 
-/// Whether the same groups have links to themselves in both.
+/// Whether the same groups have links to themselves in both, for messages alone or for stamps, too.
 fn have_same_homes(scenario: &Scenario, finer: &Scenario) -> bool
     ensures { result ≡ have_same_homes scenario.now finer.now }
 {

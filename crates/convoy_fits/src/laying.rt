@@ -86,20 +86,25 @@ fn arrival_in_time(
     delay
 }
 
-/// By when a message has come to a group, where what the trace tells of it follows from that: it is committed or delivered
-/// there, or a proposal of the group comes to another one.
+/// By when a message has come to a group, where what the trace tells of it follows from that: a proposal of the group comes
+/// to one, or the message is committed or delivered there, after the group's own proposal.
 fn last_arrival(finer: &Instance, one: Told, to: usize) -> Option<i64> {
     match one.event {
-        Event::Commit(group) | Event::Delivery(group) if group == to => Some(i64::from(one.time)),
-        Event::Proposal(group, from) if from == to => {
-            let least = least_delay(finer, one.message, from, group);
-            Some(i64::from(one.time).saturating_sub(i64::from(least)))
+        Event::Commit(group) | Event::Delivery(group) if group == to => {
+            Some(proposed_by(finer, one, to, to))
         }
+        Event::Proposal(group, from) if from == to => Some(proposed_by(finer, one, to, group)),
         _ => None,
     }
 }
 
-/// The least delay of a proposal; 0 of what a group sends to itself.
+/// By when a group has proposed a stamp for a message, where it comes to a group at what is told.
+fn proposed_by(finer: &Instance, one: Told, from: usize, to: usize) -> i64 {
+    let least = least_delay(finer, one.message, from, to);
+    i64::from(one.time).saturating_sub(i64::from(least))
+}
+
+/// The least delay of a proposal; 0 where it takes no time.
 fn least_delay(finer: &Instance, message: usize, from: usize, to: usize) -> u16 {
     let table = finer.table();
     match table.propose(message, from, to) {

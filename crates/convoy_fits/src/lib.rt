@@ -25,7 +25,5 @@ mod missing;
 mod network;
 mod teller;
 mod tells;
-#[cfg(test)]
-mod tests;
 mod ties;
 mod told_times;

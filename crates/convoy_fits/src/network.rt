@@ -46,7 +46,7 @@ fn is_sent(scenario: &Scenario, packet: Packet) -> bool
         Packet::Propose { message, from, to } => {
             is_addressed(scenario, message, from)
                 && is_addressed(scenario, message, to)
-                && from != to
+                && scenario.stamp_takes_time(from, to)
         }
     }
 }

@@ -49,7 +49,7 @@ unfoldable pub window_text : Scale → Scenario → ℕ → ℕ → List ℕ
 window_text scale scenario m time =
     event_text scenario m Issue ++ (codes " at " ++ (told_in_fine_ticks scale time ++ (codes ": it may be " ++ span_text scale (window_of (message_at scenario m)))))
 
--- how long a packet may take, in fine ticks: what a group sends to itself takes no time, unless it is a message and the group has a link to itself
+-- how long a packet may take, in fine ticks: what a group sends to itself takes no time, unless it has a link to itself that is for it
 unfoldable pub range_text : Scale → ℕ → ℕ → List ℕ
 range_text scale least most =
     if most == 0 then codes "it takes no time"

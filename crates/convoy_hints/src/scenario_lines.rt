@@ -73,7 +73,7 @@ fn add_line<'a>(
         ["tick", count, unit] => draft.tick = length_of(count, unit),
         ["delay", delay] => draft.delay = number_of(delay),
         ["groups", groups @ ..] => draft.groups = names_of(alloc, groups)?,
-        ["link", sender, to, least, most] => {
+        ["link", sender, to, least, most, stamps @ ..] => {
             let table = ScenarioTable::Link(sketch.links.len());
             sketch.links.push(part_at(table, None, number))?;
             draft.links.push(DraftLink {
@@ -81,6 +81,7 @@ fn add_line<'a>(
                 to: Name::new(alloc, to)?,
                 least: number_of(least),
                 most: number_of(most),
+                stamps: !stamps.is_empty(),
             })?;
         }
         ["multicast", name, sender, at, to @ ..] => {

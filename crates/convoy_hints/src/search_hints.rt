@@ -12,9 +12,21 @@ pub fn hint_for_first(alloc: Global) -> Result<String, AllocError> {
     )
 }
 
-/// What to do where the traffic that was found by so many simulations at most does not attain the ceiling,
-/// in one line `hint: ..`: to rely on the ceiling, or to let more schedules be tried.
-pub fn hint_for_ceiling(alloc: Global, simulations: u64, most: u64) -> Result<String, AllocError> {
+/// What to do where the traffic that was found by so many simulations at most does not attain the ceiling, or is not known
+/// to keep a deadline through outages, where these are asked for, in one line `hint: ..`: to rely on the ceiling, or to let
+/// more schedules be tried.
+pub fn hint_for_ceiling(
+    alloc: Global,
+    with_outages: bool,
+    simulations: u64,
+    most: u64,
+) -> Result<String, AllocError> {
+    if with_outages {
+        return String::from_str(
+            alloc,
+            "hint: no latency is above the ceiling, nor above the one through outages where there are such; the traffic that is found is without outages\n",
+        );
+    }
     let rest = if simulations < most {
         format!(in alloc; ", and with more schedules, as with '--seek {most}', some traffic may")?
     } else {

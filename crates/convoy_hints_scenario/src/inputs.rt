@@ -24,15 +24,26 @@ pub fn is_text_of_plan(alloc: Global, text: &[u8]) -> bool {
     }
 }
 
-/// Whether the table of a text seems to be that of a plan: it has the key `sites`, or tables of groups.
+/// Whether the table of a text seems to be that of a plan: it has the key `sites`, or tables of groups, of which none says
+/// what replicas need to agree.
 pub fn is_meant_as_plan(table: &Table) -> bool {
-    table.contains_key("sites") || table.get("group").is_some_and(has_tables)
+    table.contains_key("sites") || table.get("group").is_some_and(has_tables_of_plan)
 }
 
-/// Whether a value is an array that begins with a table.
-fn has_tables(value: &Value) -> bool {
+/// Whether a value is an array that begins with a table, and none in it says what replicas need to agree.
+fn has_tables_of_plan(value: &Value) -> bool {
     match value.as_array() {
-        Some(items) => items.first().is_some_and(Value::is_table),
+        Some(items) => {
+            items.first().is_some_and(Value::is_table) && !items.iter().any(is_of_replicas)
+        }
+        None => false,
+    }
+}
+
+/// Whether a value is a table that says what replicas need to agree.
+fn is_of_replicas(value: &Value) -> bool {
+    match value.as_table() {
+        Some(table) => table.contains_key("agree") || table.contains_key("steps"),
         None => false,
     }
 }

@@ -18,6 +18,7 @@ pub use scenario_hints::{
 pub use schedules::{has_waits, hint_for_order, hint_for_schedule};
 pub use targets::{hint_for_file_as_group, hint_for_named_group, is_name_of_file};
 
+mod agreements;
 mod damage;
 mod inputs;
 mod names;

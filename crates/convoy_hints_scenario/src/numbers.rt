@@ -28,6 +28,8 @@ pub(crate) fn hint_for_limit(alloc: Global, sketch: &Sketch<'_>, limit: Limit) -
         Limit::At => hint_for_at(alloc, sketch),
         Limit::Until => hint_for_until(alloc, sketch),
         Limit::Link => hint_for_range(alloc, sketch),
+        // Nor is there what replicas need to agree.
+        Limit::Agree => Ok(None),
         Limit::Tick if draft.time == Time::Ticks => String::from_str(
             alloc,
             "a tick has a length where time is real, and here time goes in whole ticks",

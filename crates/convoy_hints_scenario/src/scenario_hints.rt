@@ -1,3 +1,4 @@
+use super::agreements::{hint_for_agreed_limit, hint_for_agreeing};
 use super::damage::{hint_for_bytes, hint_for_damage};
 use super::inputs::{is_meant_as_certificate, is_meant_as_plan};
 use super::names::{hint_for_bad_name, hint_for_double_name};
@@ -140,7 +141,7 @@ fn gives_bare_time(line: &str) -> bool {
 fn is_key_of_time(word: &str) -> bool {
     matches!(
         word,
-        "tick" | "delay" | "least" | "most" | "at" | "until" | "within"
+        "tick" | "delay" | "least" | "most" | "agree" | "at" | "until" | "within"
     )
 }
 
@@ -252,6 +253,12 @@ fn hint_for_times(
         ScenarioFault::NotWhole(key) => {
             hint_for_part_of_tick(alloc, source, written, placed.table, key)
         }
+        ScenarioFault::OverLimit(limit @ (Limit::Agree | Limit::Delay)) => {
+            hint_for_agreed_limit(alloc, source, written, limit)
+        }
+        ScenarioFault::OverLimit(limit @ Limit::Link) if !written.agreements.is_empty() => {
+            hint_for_agreed_limit(alloc, source, written, limit)
+        }
         ScenarioFault::OverLimit(Limit::Link) => hint_for_many_links(alloc).map(Some),
         ScenarioFault::OverLimit(_) => hint_for_least_of_all(alloc, written),
         _ => Ok(None),
@@ -274,7 +281,10 @@ fn hint_for_draft(
         fault => {
             let names_target = names_target(asked);
             let sketch = sketch_of_draft(alloc, source, &written.links, draft, names_target)?;
-            let hint = hint_for_limits(alloc, &sketch, asked, fault)?;
+            let hint = match hint_for_limits(alloc, &sketch, asked, fault)? {
+                Some(hint) => Some(hint),
+                None => hint_for_agreeing(alloc, source, written, fault)?,
+            };
             with_cause(alloc, source, written, fault, hint)
         }
     }

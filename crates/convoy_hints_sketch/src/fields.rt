@@ -13,6 +13,8 @@ pub(crate) enum Kind {
     Texts,
     /// A text, or an array of texts that is not empty.
     Names,
+    /// An array of two times, the least and the greatest.
+    Range,
     Flag,
     Integers,
     Table,
@@ -29,12 +31,14 @@ pub(crate) struct Field {
 /// What has to stand at a key, which some of the tables of that kind may have.
 pub(crate) fn field_at(table: ScenarioTable, key: Key) -> Field {
     let is_in_link = matches!(table, ScenarioTable::Link(_));
+    let is_in_group = matches!(table, ScenarioTable::Group(_));
     let (kind, sample) = match key {
         Key::Time => (Kind::Text, "time = \"real\""),
         Key::Tick => (Kind::Text, "tick = \"50 us\""),
         Key::Delay => (Kind::Time, "delay = 3"),
         Key::Groups => (Kind::Texts, "groups = [\"a\", \"b\"]"),
         Key::Multicast => (Kind::Tables, "[[multicast]]"),
+        Key::Name if is_in_group => (Kind::Names, "name = \"a\""),
         Key::Name => (Kind::Text, "name = \"x\""),
         Key::From if is_in_link => (Kind::Names, "from = \"a\""),
         Key::From => (Kind::Text, "from = \"a\""),
@@ -45,11 +49,15 @@ pub(crate) fn field_at(table: ScenarioTable, key: Key) -> Field {
         Key::Within => (Kind::Time, "within = 40"),
         Key::Target => (Kind::Table, "[target]"),
         Key::Message => (Kind::Text, "message = \"x\""),
+        Key::Group if table == ScenarioTable::Top => (Kind::Tables, "[[group]]"),
         Key::Group => (Kind::Text, "group = \"a\""),
         Key::Link => (Kind::Tables, "[[link]]"),
         Key::Least => (Kind::Time, "least = 1"),
         Key::Most => (Kind::Time, "most = 2"),
         Key::Both => (Kind::Flag, "both = true"),
+        Key::Stamps => (Kind::Flag, "stamps = true"),
+        Key::Agree => (Kind::Range, "agree = [1, 3]"),
+        Key::Steps => (Kind::Text, "steps = \"twice\""),
         Key::Schedule => (Kind::Integers, "schedule = [1, 3, 1, 2]"),
         Key::Order => (Kind::Integers, "order = [0, 1, 0, 0]"),
         Key::Unknown => (Kind::Text, ""),
@@ -59,6 +67,12 @@ pub(crate) fn field_at(table: ScenarioTable, key: Key) -> Field {
 
 /// What has to stand at a key whose time is a duration; None where it has no time.
 pub(crate) fn lasting_field(key: Key) -> Option<Field> {
+    if key == Key::Agree {
+        return Some(Field {
+            kind: Kind::Range,
+            sample: "agree = [\"1 ms\", \"3 ms\"]",
+        });
+    }
     let sample = match key {
         Key::Delay => "delay = \"80 ms\"",
         Key::Least => "least = \"1 ms\"",
@@ -87,7 +101,15 @@ pub(crate) fn keys_of(table: ScenarioTable) -> &'static [Key] {
             Key::Within,
         ],
         ScenarioTable::Target => &[Key::Message, Key::Group],
-        ScenarioTable::Link(_) => &[Key::From, Key::To, Key::Both, Key::Least, Key::Most],
+        ScenarioTable::Link(_) => &[
+            Key::From,
+            Key::To,
+            Key::Both,
+            Key::Least,
+            Key::Most,
+            Key::Stamps,
+        ],
+        ScenarioTable::Group(_) => &[Key::Name, Key::Agree, Key::Steps],
     }
 }
 
@@ -98,12 +120,15 @@ pub(crate) const OUTSIDE: &str = "outside";
 pub(crate) fn words_beside(table: ScenarioTable) -> &'static [&'static str] {
     match table {
         ScenarioTable::Link(_) => &[OUTSIDE],
-        ScenarioTable::Top | ScenarioTable::Multicast(_) | ScenarioTable::Target => &[],
+        ScenarioTable::Top
+        | ScenarioTable::Multicast(_)
+        | ScenarioTable::Target
+        | ScenarioTable::Group(_) => &[],
     }
 }
 
 /// The keys above the first header.
-pub(crate) const TOP_KEYS: [Key; 10] = [
+pub(crate) const TOP_KEYS: [Key; 11] = [
     Key::Time,
     Key::Tick,
     Key::Delay,
@@ -112,6 +137,7 @@ pub(crate) const TOP_KEYS: [Key; 10] = [
     Key::Multicast,
     Key::Target,
     Key::Link,
+    Key::Group,
     Key::Schedule,
     Key::Order,
 ];

@@ -60,6 +60,7 @@ impl<'a> Part<'a> {
             ScenarioTable::Multicast(number) => write_numbered(f, number, "multicast"),
             ScenarioTable::Target => f.write_str("the target"),
             ScenarioTable::Link(number) => write_numbered(f, number, "link"),
+            ScenarioTable::Group(number) => write_numbered(f, number, "table [[group]]"),
         }
     }
 

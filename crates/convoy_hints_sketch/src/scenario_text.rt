@@ -26,6 +26,7 @@ impl<'a> ScenarioText<'a> {
                 .as_table(),
             ScenarioTable::Target => self.table.get(Key::Target.word())?.as_table(),
             ScenarioTable::Link(number) => self.items_at(Key::Link).get(number)?.as_table(),
+            ScenarioTable::Group(number) => self.items_at(Key::Group).get(number)?.as_table(),
         }
     }
 
@@ -34,6 +35,7 @@ impl<'a> ScenarioText<'a> {
         has_count(self.table)
             || self.items_at(Key::Multicast).iter().any(is_with_count)
             || self.items_at(Key::Link).iter().any(is_with_count)
+            || self.items_at(Key::Group).iter().any(is_with_count)
     }
 
     /// One of its tables, as a person finds it.
@@ -42,6 +44,7 @@ impl<'a> ScenarioText<'a> {
             ScenarioTable::Top | ScenarioTable::Target => 1,
             ScenarioTable::Multicast(_) => self.items_at(Key::Multicast).len(),
             ScenarioTable::Link(_) => self.items_at(Key::Link).len(),
+            ScenarioTable::Group(_) => self.items_at(Key::Group).len(),
         };
         let mut part = part_of(self.text, table, among, self.name_of(table));
         part.kind = self.kind;
@@ -52,7 +55,7 @@ impl<'a> ScenarioText<'a> {
     fn name_of(&self, table: ScenarioTable) -> Option<&'a str> {
         match table {
             ScenarioTable::Top | ScenarioTable::Target => None,
-            ScenarioTable::Multicast(_) | ScenarioTable::Link(_) => {
+            ScenarioTable::Multicast(_) | ScenarioTable::Link(_) | ScenarioTable::Group(_) => {
                 self.table_at(table)?.get(Key::Name.word())?.as_str()
             }
         }
@@ -77,7 +80,15 @@ fn has_count(table: &Table) -> bool {
             return true;
         }
     }
-    false
+    table.get(Key::Agree.word()).is_some_and(has_integer)
+}
+
+/// Whether a value is an array with an integer in it.
+fn has_integer(value: &Value) -> bool {
+    match value.as_array() {
+        Some(items) => items.iter().any(Value::is_integer),
+        None => false,
+    }
 }
 
 /// Whether a value is a table of which a time is a number.
@@ -100,6 +111,7 @@ pub(crate) fn part_of<'a>(
         ScenarioTable::Multicast(number) => header_line(text, "[[multicast]]", number, among),
         ScenarioTable::Target => header_line(text, "[target]", 0, among),
         ScenarioTable::Link(number) => header_line(text, "[[link]]", number, among),
+        ScenarioTable::Group(number) => header_line(text, "[[group]]", number, among),
     };
     Part {
         table,

@@ -105,6 +105,8 @@ fn hint_for_value(
         (Key::From, _) if names_clients(value) => format!(in alloc;
             "'{key}' in {part} has the clients in it: leave the key '{key}' out where clients send"
         ),
+        (Key::Steps, Some(word)) => hint_for_steps_word(alloc, word, part),
+        (Key::Agree, _) => hint_for_agree(alloc, field, value, part, time),
         (Key::Both, _) if leads_back_to_clients(table) => format!(in alloc;
             "'both' in {part} is true, and nothing is sent to clients: name the groups in 'from', or leave 'both' out"
         ),
@@ -135,6 +137,51 @@ fn hint_for_time_word(alloc: Global, word: &str) -> Result<String, AllocError> {
         None => format!(in alloc;
             "'time' is {shown}: write 'time = \"real\"', or 'time = \"ticks\"', which is so without the key"
         ),
+    }
+}
+
+/// A word is none for how often replicas agree.
+fn hint_for_steps_word(alloc: Global, word: &str, part: &Part<'_>) -> Result<String, AllocError> {
+    let shown = Quoted(word);
+    format!(in alloc;
+        "'steps' in {part} is {shown}: write \"log\" where each message and each proposal that comes is an entry, and \"twice\" where one more is agreed on before a message is committed"
+    )
+}
+
+/// What replicas need to agree is not an array of two times.
+fn hint_for_agree(
+    alloc: Global,
+    field: Field,
+    value: &Value,
+    part: &Part<'_>,
+    time: Time,
+) -> Result<String, AllocError> {
+    let items = match value.as_array() {
+        Some(items) if items.len() == 2 => items,
+        Some(items) => {
+            let (count, sample) = (items.len(), field.sample);
+            return format!(in alloc;
+                "'agree' in {part} has {count} items: write two times, the least and the greatest from an entry given to the leader until it is applied there, as '{sample}'"
+            );
+        }
+        None => return hint_for_kind(alloc, Key::Agree, field, value, part),
+    };
+    let odd = items
+        .iter()
+        .find(|item| !is_time(item, time))
+        .unwrap_or(value);
+    let each = Field {
+        kind: Kind::Time,
+        sample: field.sample,
+    };
+    hint_for_when(alloc, Key::Agree, each, odd, part, time)
+}
+
+/// Whether a value is a number of ticks, or where time is real a duration.
+fn is_time(value: &Value, time: Time) -> bool {
+    match value.as_str() {
+        Some(text) => time == Time::Real && Duration::read(text.as_bytes()).is_some(),
+        None => value.is_integer(),
     }
 }
 
@@ -258,6 +305,7 @@ fn words_for(kind: Kind) -> &'static str {
         Kind::Text => "a string",
         Kind::Texts => "an array of strings",
         Kind::Names => "a string or an array of strings",
+        Kind::Range => "an array of two times",
         Kind::Flag => "true or false",
         Kind::Integers => "an array of integers",
         Kind::Table => "a table",

@@ -4,7 +4,6 @@ use super::scenario_text::ScenarioText;
 use super::times::{Spell, has_too_many, shown, spells_of};
 use convoy_toml::{WrittenScenario, common_divisor};
 use std::alloc::{AllocError, Global};
-use toml::Value;
 
 /// How many durations are tried at most as the one that makes a tick so short.
 const MOST_TRIED: usize = 32;
@@ -61,7 +60,7 @@ fn shown_spell(
 ) -> Result<String, AllocError> {
     let (key, part) = (spell.key, spell.part(source));
     let written = match source.table_at(spell.table) {
-        Some(table) => table.get(key.word()).and_then(Value::as_str).unwrap_or(""),
+        Some(table) => spell.text_in(table),
         None => "",
     };
     let written = Quoted(written);

@@ -8,7 +8,7 @@ use convoy_scenario::{
 };
 use convoy_toml::{PlainNumber, ScenarioTable, WrittenScenario, WrittenTime, common_divisor};
 use std::alloc::{AllocError, Global};
-use toml::Value;
+use toml::{Table, Value};
 
 /// A time of a scenario text: where it stands, and what is written.
 #[derive(Clone, Copy, Drop)]
@@ -49,10 +49,40 @@ impl Spell {
         }
     }
 
+    /// How it is written in its table, where that is a duration: at its key, or in the array there.
+    pub(crate) fn text_in<'a>(&self, table: &'a Table) -> &'a str {
+        let Some(value) = table.get(self.key.word()) else {
+            return "";
+        };
+        match value.as_array() {
+            Some(items) => items
+                .iter()
+                .find(|item| length_in(item) == self.length())
+                .and_then(Value::as_str)
+                .unwrap_or(""),
+            None => value.as_str().unwrap_or(""),
+        }
+    }
+
+    /// Whether it is the time at this key of this table, and a duration that is no whole number of ticks of that length.
+    fn is_part_of_tick(&self, table: ScenarioTable, key: Key, tick: u64) -> bool {
+        let is_there = self.table == table && self.key == key;
+        is_there
+            && self
+                .length()
+                .is_some_and(|length| !length.is_multiple_of(tick))
+    }
+
     /// The table in which it stands, as a person finds it.
     pub(crate) fn part<'a>(&self, source: ScenarioText<'a>) -> Part<'a> {
         source.part(self.table)
     }
+}
+
+/// The nanoseconds of the duration that a value tells.
+fn length_in(value: &Value) -> Option<u64> {
+    let duration = Duration::read(value.as_str()?.as_bytes())?;
+    Some(duration.nanoseconds())
 }
 
 /// All times of a scenario, in the order in which faults of them are told.
@@ -72,6 +102,11 @@ pub(crate) fn spells_of(
         let table = ScenarioTable::Link(number);
         add_spell(&mut spells, table, Key::Least, Some(link.least))?;
         add_spell(&mut spells, table, Key::Most, Some(link.most))?;
+    }
+    for (number, agreement) in scenario.agreements.iter().enumerate() {
+        let table = ScenarioTable::Group(number);
+        add_spell(&mut spells, table, Key::Agree, Some(agreement.least))?;
+        add_spell(&mut spells, table, Key::Agree, Some(agreement.most))?;
     }
     Ok(spells)
 }
@@ -120,9 +155,13 @@ pub fn hint_for_part_of_tick(
         return Ok(None);
     };
     let tick = tick.nanoseconds();
-    let written = Quoted(inner.get(key.word()).and_then(Value::as_str).unwrap_or(""));
+    let spells = spells_of(alloc, scenario)?;
+    let odd = spells
+        .iter()
+        .find(|spell| spell.is_part_of_tick(table, key, tick));
+    let written = Quoted(odd.map_or("", |spell| spell.text_in(inner)));
     let length = shown(alloc, tick)?;
-    let way = way_out(alloc, &spells_of(alloc, scenario)?, tick)?;
+    let way = way_out(alloc, &spells, tick)?;
     let part = source.part(table);
     format!(in alloc;
         "'{key}' in {part} is {written}, which is no whole number of ticks of {length}: {way}"

@@ -4,7 +4,7 @@ use Rattle.std.specs.List.{slice_get}
 use Rattle.std.proofs.Common.{refl, sym, ap, ◌∙◌, arith, set, inl, inr}
 use Rattle.std.proofs.lemmas.Bool.{cases_eq}
 use Rattle.std.proofs.lemmas.Bool.Decides.{nat_tests}
-use Rattle.convoy_scenario.specs.Scenario.{Scenario, GoesTo, message_at, is_addressed}
+use Rattle.convoy_scenario.specs.Scenario.{Scenario, GoesTo, message_at, is_addressed, stamp_takes_time}
 use Rattle.convoy_packets.specs.ScheduleLaws.{is_sent}
 use Rattle.convoy_packets.specs.declared.packet.Packet.{Packet}
 use Rattle.convoy_packets.specs.declared.packet.Packet.TheVariants.{Propose}
@@ -66,7 +66,7 @@ module _ (plan : Scenario) (ranges : List (ℕ × ℕ)) (old : List Span) where
 -- a stamp that the scenario sends goes to a destination of its message
 pub propose_goes : (plan : Scenario) (m h k : ℕ) → IsTrue (is_sent plan (Propose m h k)) → GoesTo plan m k
 propose_goes plan m h k sent =
-    and_both (is_addressed (message_at plan m) h) (is_addressed (message_at plan m) k) (not (h == k)) sent where
+    and_both (is_addressed (message_at plan m) h) (is_addressed (message_at plan m) k) (stamp_takes_time plan h k) sent where
       and_both : (a b c : Bool) → (a && b && c) ≡ true → b ≡ true
       and_both a true c both = refl
       and_both true false c both = both

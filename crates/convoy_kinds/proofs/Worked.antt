@@ -90,7 +90,7 @@ x_beside_y = refl
 
 -- with a link from a to itself y comes to a later than it is issued, so t waits longest for another of its own kind there
 unfoldable with_home : Kinds
-with_home = record kinds { setting = record (base_with 3 6) { links = record { sender = Group 0; to = 0; least = 2; most = 3 } ∷ [] } }
+with_home = record kinds { setting = record (base_with 3 6) { links = record { sender = Group 0; to = 0; least = 2; most = 3; stamps = false } ∷ [] } }
 
 home_t_at_a : ceiling_of_kind with_home 1 0 ≡ 11
 unfolding with_home kinds base_with message ceiling_at ceiling_of ceiling_of_kind
@@ -103,6 +103,18 @@ home_y_at_a = refl
 home_at_a : rival_at with_home 0 ≡ 1
 unfolding with_home kinds base_with message rival_at
 home_at_a = refl
+
+-- with a link from b to itself that is for stamps, too, x may take as long to its commit there as what goes to both
+unfoldable with_stamps : Kinds
+with_stamps = record kinds { setting = record (base_with 3 6) { links = record { sender = Group 1; to = 1; least = 2; most = 3; stamps = true } ∷ [] } }
+
+stamps_x_at_b : ceiling_of_kind with_stamps 0 1 ≡ 11
+unfolding with_stamps kinds base_with message ceiling_at ceiling_of ceiling_of_kind
+stamps_x_at_b = refl
+
+stamps_at_b : rival_at with_stamps 1 ≡ 0
+unfolding with_stamps kinds base_with message rival_at
+stamps_at_b = refl
 
 rows : kind_targets kinds ≡ (0, 1) ∷ (1, 0) ∷ (1, 1) ∷ (2, 0) ∷ (2, 1) ∷ []
 unfolding kinds base_with message

@@ -72,7 +72,7 @@ abbrev pub kind_words : List (List ℕ)
 kind_words = codes "name" ∷ codes "from" ∷ codes "to" ∷ codes "to_any" ∷ []
 
 abbrev pub text_words : List (List ℕ)
-text_words = codes "time" ∷ codes "tick" ∷ codes "delay" ∷ codes "least" ∷ codes "groups" ∷ codes "link" ∷ codes "kind" ∷ []
+text_words = codes "time" ∷ codes "tick" ∷ codes "delay" ∷ codes "least" ∷ codes "groups" ∷ codes "link" ∷ codes "group" ∷ codes "kind" ∷ []
 
 -- a table of kinds
 abbrev pub kind_of_table : Members → Result WrittenKind KindsFault

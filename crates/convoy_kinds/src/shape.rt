@@ -229,7 +229,9 @@ pub(crate) fn written_of_table(alloc: Global, table: &Table) -> Result<WrittenKi
     let kinds = kinds_of_tables(alloc, &tables)?;
     need_only(
         table,
-        &["time", "tick", "delay", "least", "groups", "link", "kind"],
+        &[
+            "time", "tick", "delay", "least", "groups", "link", "group", "kind",
+        ],
     )?;
     Ok(WrittenKinds {
         setting,

@@ -1,8 +1,9 @@
 -- A draft, with a least delay of what goes by no link, and the same in ticks so many times as fine: the scenario is one, told in ticks and in finer ones.
 use Rattle.std.proofs.Common.{◌≡◌, ℕ, zero, suc, ◌+◌, ◌*◌, ◌==◌, ◌&&◌, ◌||◌, ◌≤◌, ℤ, pos, negsuc, int_le, leb, leb-true, eq-eqb, Bool, true, false, not, cond, List, [], ◌∷◌, ◌++◌, map, take, get_or, inl, inr, Option, Some, None, is_some, option_map, Ok, Err, refl, sym, ap, subst, ◌∙◌, arith}
 use Rattle.std.specs.List.{AllZip, find, list_all, list_any, position_or_len}
+use Rattle.std.specs.Option.{option_map_or}
 use Rattle.std.specs.Str.{bytes_eq}
-use Rattle.std.proofs.lemmas.Bool.{and_parts, cases_Bool, false≢true, not-true}
+use Rattle.std.proofs.lemmas.Bool.{and_parts, cases_Bool, eqb-true, false≢true}
 use Rattle.std.proofs.lemmas.List.{length-map}
 use Rattle.std.proofs.lemmas.List.Folds.{list_all-append}
 use Rattle.convoy_draft.specs.declared.fault.ScenarioFault.{ScenarioFault}
@@ -18,7 +19,7 @@ use Rattle.convoy_scenario.specs.ScenarioLaws.{OrderKeepsRanges, OrderKeepsWhatT
 use Rattle.convoy_scenario.specs.Numbering.{link_of, message_place, place, scenario_of, scenario_of_draft, sender_of}
 use Rattle.convoy_scenario.specs.Room.{has_room}
 use Rattle.convoy_scenario.proofs.GivenScenarios.{given}
-use Rattle.convoy_scenario.specs.Scenario.{Link, Message, Scenario, is_addressed, is_same_sender, message_at, no_message, range_between, takes_time}
+use Rattle.convoy_scenario.specs.Scenario.{HaveSameHomes, Link, Message, Scenario, is_addressed, is_same_sender, link_between, message_at, no_message, range_between, stamp_takes_time, takes_time}
 use Rattle.convoy_scenario.proofs.KeptRanges.{leads, one_sender, range_found}
 use Rattle.convoy_scenario.proofs.NumberedLemmas.{Passes, passes}
 use Rattle.convoy_packets.specs.declared.packet.Packet.TheVariants.{Wait, Multicast, Propose}
@@ -192,10 +193,20 @@ pub record AreRead (times tick : ℕ) (plain : Draft) (least : Option ℤ) : Typ
   pub room : has_room (scenario_of (record plain { links = (with_least least plain).links })) ≡ true
   pub fine_room : has_room (scenario_of (record (finer_draft times tick plain) { links = (with_least (option_map (finer_ticks times) least) (finer_draft times tick plain)).links })) ≡ true
 
--- what a link is told as in finer ticks is there just where it is
+-- what a link is told as in finer ticks is there just where it is, and is for stamps where it is
 is_some_finer : (times : ℕ) (link : Option Link) → is_some (option_map (as_fine times) link) ≡ is_some link
 is_some_finer times None = refl
 is_some_finer times (Some link) = refl
+
+stamps_finer : (times : ℕ) (link : Option Link) → option_map_or (λ (l : Link). l.stamps) (option_map (as_fine times) link) false ≡ option_map_or (λ (l : Link). l.stamps) link false
+stamps_finer times None = refl
+stamps_finer times (Some link) = refl
+
+-- what a link that is for stamps is to the stamps of a group, it is to its messages
+for_messages : (away : Bool) (link : Option Link) → (away || option_map_or (λ (l : Link). l.stamps) link false) ≡ true → (away || is_some link) ≡ true
+for_messages true link e = refl
+for_messages false None e = e
+for_messages false (Some link) e = refl
 
 module _ (keeps : OrderKeepsRanges) (takes : OrderKeepsWhatTakesTime) (times tick : ℕ) (plain : Draft) (least : Option ℤ) (are : AreRead times tick plain least) where
   abbrev draft : Draft
@@ -264,18 +275,24 @@ module _ (keeps : OrderKeepsRanges) (takes : OrderKeepsWhatTakesTime) (times tic
       ∙ found_finer times plain.groups (Group g) g plain.links all_as_fine
       ∙ ap (option_map (as_fine times)) (sym (home_as_written least plain g passed_here.ends))
 
-  same_home : (g : ℕ) → takes_time finer (Group g) g ≡ takes_time scenario (Group g) g
-  same_home g =
-      takes fine_draft finer (Group g) g given_there
-      ∙ ap (λ some. not (g == g) || some) (ap is_some (home_finer g) ∙ is_some_finer times (home draft g))
-      ∙ sym (takes draft scenario (Group g) g given_here)
+  same_homes : HaveSameHomes scenario finer
+  same_homes = record {
+    messages = λ g.
+        (takes fine_draft finer given_there).messages (Group g) g
+        ∙ ap (λ some. not (g == g) || some) (ap is_some (home_finer g) ∙ is_some_finer times (home draft g))
+        ∙ sym ((takes draft scenario given_here).messages (Group g) g);
+    stamps = λ g.
+        (takes fine_draft finer given_there).stamps g g
+        ∙ ap (λ stamps. not (g == g) || stamps) (ap (λ link. option_map_or (λ (l : Link). l.stamps) link false) (home_finer g) ∙ stamps_finer times (home draft g))
+        ∙ sym ((takes draft scenario given_here).stamps g g);
+  }
 
   home_range : (g : ℕ) → takes_time scenario (Group g) g ≡ true → range_between finer (Group g) g ≡ finer_range times (range_between scenario (Group g) g)
   home_range g travels = by_link (home draft g) refl where
     by_link : (link : Option Link) → home draft g ≡ link → range_between finer (Group g) g ≡ finer_range times (range_between scenario (Group g) g)
     by_link None none =
         let never : (not (g == g) || false) ≡ true =
-        ap (λ some. not (g == g) || is_some some) (sym none) ∙ sym (takes draft scenario (Group g) g given_here) ∙ travels in
+        ap (λ some. not (g == g) || is_some some) (sym none) ∙ sym ((takes draft scenario given_here).messages (Group g) g) ∙ travels in
         absurd (false≢true (rw (eq-eqb g g refl) at never))
     by_link (Some link) found =
         keeps fine_draft finer (Group g) g given_there
@@ -297,15 +314,21 @@ module _ (keeps : OrderKeepsRanges) (takes : OrderKeepsWhatTakesTime) (times tic
         | inr away ↦ between_same sender g (goes draft passed_here (Multicast m g) refl sent away)
       ]
   same_ranges (Propose m h g) sent =
-      let parts = and_parts (is_addressed (message_at scenario m) h && is_addressed (message_at scenario m) g) (not (h == g)) sent in
-      between_same (Group h) g (goes draft passed_here (Propose m h g) refl sent (not-true (h == g) parts.1))
+      elim (cases_Bool (h == g)) [
+        | inl itself ↦
+            let from : h ≡ g = eqb-true h g itself in
+            let travels : stamp_takes_time scenario h g ≡ true = (and_parts (is_addressed (message_at scenario m) h && is_addressed (message_at scenario m) g) (stamp_takes_time scenario h g) sent).1 in
+            subst (λ (n : ℕ). range_between finer (Group n) g ≡ finer_range times (range_between scenario (Group n) g)) (sym from)
+            (home_range g (for_messages (not (g == g)) (link_between scenario.links (Group g) g) (subst (λ (n : ℕ). stamp_takes_time scenario n g ≡ true) from travels)))
+        | inr away ↦ between_same (Group h) g (goes draft passed_here (Propose m h g) refl sent away)
+      ]
 
   pub is_finer : IsFiner times scenario finer
   is_finer = record {
     some = are.some;
     groups = refl;
     messages = finer_messages times scenario.multicasts finer.multicasts zipped;
-    home = same_home;
+    homes = same_homes;
     ranges = λ packet sent travels. in_range (range_of scenario packet) (range_of finer packet) (same_ranges packet sent);
     target_message = place_finer times plain.target_message plain.messages;
     target_group = refl;

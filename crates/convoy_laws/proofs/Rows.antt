@@ -1,10 +1,10 @@
 -- Worked rows: scenarios in real time, the same ones in ticks that are twice as fine, and runs of them.
 use Rattle.std.specs.List.{AllZip}
 use Rattle.std.proofs.lemmas.Bool.{ne_eqb}
-use Rattle.std.proofs.Common.{◌≡◌, ℕ, zero, suc, ◌≤◌, IsTrue, List, [], ◌∷◌, map, replicate, codes, refl, arith}
+use Rattle.std.proofs.Common.{◌≡◌, ℕ, zero, suc, ◌≤◌, Bool, true, false, IsTrue, List, [], ◌∷◌, length, map, replicate, codes, refl, arith}
 use Rattle.convoy_scenario.specs.declared.sender.Sender.TheVariants.{Client, Group}
 use Rattle.convoy_draft.specs.declared.time.Time.TheVariants.{Real}
-use Rattle.convoy_scenario.specs.Scenario.{Link, Scenario, takes_time}
+use Rattle.convoy_scenario.specs.Scenario.{Link, Scenario, stamp_takes_time, takes_time}
 use Rattle.convoy_scenario.specs.declared.sender.Sender.{Sender}
 use Rattle.convoy_packets.specs.declared.packet.Packet.{Packet}
 use Rattle.convoy_packets.specs.Packets.{packets_of}
@@ -25,7 +25,7 @@ unfoldable in_ticks : Scenario
 in_ticks = record base { time = Real }
 
 half_link : Sender → ℕ → Link
-half_link sender to = record { sender = sender; to = to; least = 2; most = 6 }
+half_link sender to = record { sender = sender; to = to; least = 2; most = 6; stamps = false }
 
 -- the same with delays of 2 to 6 half ticks
 unfoldable in_half_ticks : Scenario
@@ -51,12 +51,16 @@ at_packet : (R : ℕ × ℕ → ℕ × ℕ → Type 0) (plan fine : Scenario) �
     → (packet : Packet) → IsTrue (is_sent plan packet) → R (range_of plan packet) (range_of fine packet)
 at_packet R plan fine holds packet sent = zip_at R (range_of plan) (range_of fine) (packets_of plan) holds packet (in_of_sent plan packet sent)
 
+-- what a group sends to itself, a message or a stamp, takes time in both, or in neither
+abbrev TakesAlike : Scenario → Scenario → ℕ → Type 0
+TakesAlike scenario other g = (takes_time other (Group g) g ≡ takes_time scenario (Group g) g) × (stamp_takes_time other g g ≡ stamp_takes_time scenario g g)
+
 -- neither has a link from a group to itself
-none_home : (g : ℕ) → takes_time in_half_ticks (Group g) g ≡ takes_time in_ticks (Group g) g
+none_home : (g : ℕ) → TakesAlike in_ticks in_half_ticks g
 unfolding in_ticks in_half_ticks half_link base_with message
-none_home zero = refl
-none_home (suc zero) = refl
-none_home (suc (suc g)) = rw (ne_eqb (suc (suc g)) 0 (λ e. omega (arith, e)), ne_eqb (suc (suc g)) 1 (λ e. omega (arith, e))) refl
+none_home zero = (refl, refl)
+none_home (suc zero) = (refl, refl)
+none_home (suc (suc g)) = rw (ne_eqb (suc (suc g)) 0 (λ e. omega (arith, e)), ne_eqb (suc (suc g)) 1 (λ e. omega (arith, e))) (refl, refl)
 
 half_ticks_are_finer : IsFiner 2 in_ticks in_half_ticks
 unfolding in_ticks in_half_ticks half_link base_with message packets_of
@@ -67,7 +71,7 @@ half_ticks_are_finer = record {
     record { sender = refl; destinations = refl; at = omega arith; until = omega arith },
     (record { sender = refl; destinations = refl; at = omega arith; until = omega arith }, (record { sender = refl; destinations = refl; at = omega arith; until = omega arith }, tt)),
   );
-  home = none_home;
+  homes = record { messages = λ g. (none_home g).0; stamps = λ g. (none_home g).1 };
   ranges = λ packet sent travels. at_packet (IsInRange 2) in_ticks in_half_ticks (ranges_within 2 (map (range_of in_ticks) (packets_of in_ticks))) packet sent;
   target_message = refl;
   target_group = refl;
@@ -78,42 +82,57 @@ unfolding in_ticks in_half_ticks half_link base_with message packets_of
 same_ranges packet sent =
     at_packet (λ range finer. finer ≡ finer_range 2 range) in_ticks in_half_ticks (ranges_same 2 (map (range_of in_ticks) (packets_of in_ticks))) packet sent
 
--- y takes 2 to 3 ticks from a to a itself ..
-unfoldable own_in_ticks : Scenario
-own_in_ticks = record in_ticks { links = record { sender = Group 0; to = 0; least = 2; most = 3 } ∷ [] }
+-- y takes 2 to 3 ticks from a to a itself, and where their link is for stamps so does a's stamp of t and of y ..
+unfoldable own_in_ticks : Bool → Scenario
+own_in_ticks stamps = record in_ticks { links = record { sender = Group 0; to = 0; least = 2; most = 3; stamps = stamps } ∷ [] }
 
 -- .. and 4 to 6 half ticks
-unfoldable own_in_half_ticks : Scenario
-own_in_half_ticks = record in_half_ticks {
-  links = half_link Client 0 ∷ half_link Client 1 ∷ record { sender = Group 0; to = 0; least = 4; most = 6 } ∷ half_link (Group 0) 1 ∷ half_link (Group 1) 0 ∷ [];
+unfoldable own_in_half_ticks : Bool → Scenario
+own_in_half_ticks stamps = record in_half_ticks {
+  links = half_link Client 0 ∷ half_link Client 1 ∷ record { sender = Group 0; to = 0; least = 4; most = 6; stamps = stamps } ∷ half_link (Group 0) 1 ∷ half_link (Group 1) 0 ∷ [];
 }
 
 -- a alone has a link to itself, in both
-one_home : (g : ℕ) → takes_time own_in_half_ticks (Group g) g ≡ takes_time own_in_ticks (Group g) g
+one_home : (stamps : Bool) (g : ℕ) → TakesAlike (own_in_ticks stamps) (own_in_half_ticks stamps) g
 unfolding own_in_ticks own_in_half_ticks in_ticks in_half_ticks half_link base_with message
-one_home zero = refl
-one_home (suc zero) = refl
-one_home (suc (suc g)) = rw (ne_eqb (suc (suc g)) 0 (λ e. omega (arith, e)), ne_eqb (suc (suc g)) 1 (λ e. omega (arith, e))) refl
+one_home stamps zero = (refl, refl)
+one_home stamps (suc zero) = (refl, refl)
+one_home stamps (suc (suc g)) = rw (ne_eqb (suc (suc g)) 0 (λ e. omega (arith, e)), ne_eqb (suc (suc g)) 1 (λ e. omega (arith, e))) (refl, refl)
 
-own_is_finer : IsFiner 2 own_in_ticks own_in_half_ticks
+-- eight packets go to other places, and y to a; where the link is for stamps two more stay there
+own_packets : (length (packets_of (own_in_ticks false)) ≡ 9) × (length (packets_of (own_in_ticks true)) ≡ 11)
+unfolding own_in_ticks in_ticks base_with message packets_of
+own_packets = (refl, refl)
+
+own_ranges : (stamps : Bool) → map (range_of (own_in_half_ticks stamps)) (packets_of (own_in_ticks stamps)) ≡ map (finer_range 2) (map (range_of (own_in_ticks stamps)) (packets_of (own_in_ticks stamps)))
 unfolding own_in_ticks own_in_half_ticks in_ticks in_half_ticks half_link base_with message packets_of
-own_is_finer = record {
+own_ranges true = refl
+own_ranges false = refl
+
+own_in_range : (stamps : Bool) (packet : Packet) → IsTrue (is_sent (own_in_ticks stamps) packet) → IsInRange 2 (range_of (own_in_ticks stamps) packet) (range_of (own_in_half_ticks stamps) packet)
+own_in_range stamps packet sent =
+    at_packet (IsInRange 2) (own_in_ticks stamps) (own_in_half_ticks stamps)
+    (rw (own_ranges stamps) (ranges_within 2 (map (range_of (own_in_ticks stamps)) (packets_of (own_in_ticks stamps))))) packet sent
+
+own_is_finer : (stamps : Bool) → IsFiner 2 (own_in_ticks stamps) (own_in_half_ticks stamps)
+unfolding own_in_ticks own_in_half_ticks in_ticks in_half_ticks half_link base_with message
+own_is_finer stamps = record {
   some = omega arith;
   groups = refl;
   messages = (
     record { sender = refl; destinations = refl; at = omega arith; until = omega arith },
     (record { sender = refl; destinations = refl; at = omega arith; until = omega arith }, (record { sender = refl; destinations = refl; at = omega arith; until = omega arith }, tt)),
   );
-  home = one_home;
-  ranges = λ packet sent travels. at_packet (IsInRange 2) own_in_ticks own_in_half_ticks (ranges_within 2 (map (range_of own_in_ticks) (packets_of own_in_ticks))) packet sent;
+  homes = record { messages = λ g. (one_home stamps g).0; stamps = λ g. (one_home stamps g).1 };
+  ranges = λ packet sent travels. own_in_range stamps packet sent;
   target_message = refl;
   target_group = refl;
 }
 
-own_has_same_ranges : AreSameRanges 2 own_in_ticks own_in_half_ticks
-unfolding own_in_ticks own_in_half_ticks in_ticks in_half_ticks half_link base_with message packets_of
-own_has_same_ranges packet sent =
-    at_packet (λ range finer. finer ≡ finer_range 2 range) own_in_ticks own_in_half_ticks (ranges_same 2 (map (range_of own_in_ticks) (packets_of own_in_ticks))) packet sent
+own_has_same_ranges : (stamps : Bool) → AreSameRanges 2 (own_in_ticks stamps) (own_in_half_ticks stamps)
+own_has_same_ranges stamps packet sent =
+    at_packet (λ range finer. finer ≡ finer_range 2 range) (own_in_ticks stamps) (own_in_half_ticks stamps)
+    (rw (own_ranges stamps) (ranges_same 2 (map (range_of (own_in_ticks stamps)) (packets_of (own_in_ticks stamps))))) packet sent
 
 -- each packet takes a tick and a half, and t is six half ticks late ..
 half_ticks_late : latency_of in_half_ticks (in_fixed_order (replicate 8 3)) ≡ 6
@@ -148,7 +167,7 @@ waits_are_finer longest_wait few = record {
     record { sender = refl; destinations = refl; at = omega arith; until = omega arith },
     (record { sender = refl; destinations = refl; at = omega arith; until = omega arith }, (record { sender = refl; destinations = refl; at = omega arith; until = omega arith }, tt)),
   );
-  home = none_home;
+  homes = record { messages = λ g. (none_home g).0; stamps = λ g. (none_home g).1 };
   ranges = λ packet sent travels. at_packet (IsInRange 2) waiting (waiting_in_half_ticks longest_wait)
       ((omega arith, omega arith), ((omega arith, omega arith), ((omega arith, omega arith), ((omega arith, omega arith), ((omega arith, omega arith), ((omega arith, omega arith), ((omega arith, omega arith), ((omega arith, omega arith), ((omega arith, omega arith), tt))))))))) packet sent;
   target_message = refl;

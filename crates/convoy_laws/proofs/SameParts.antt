@@ -1,7 +1,7 @@
 -- What a scenario has in common with the same one in finer ticks: its messages, their destinations, and the packets that travel.
-use Rattle.std.proofs.Common.{◌≡◌, ℕ, zero, suc, ◌+◌, ◌*◌, ◌==◌, ◌&&◌, not, List, [], ◌∷◌, length, get_or, filter, refl, ap, ap₂, ◌∙◌, arith}
+use Rattle.std.proofs.Common.{◌≡◌, ℕ, zero, suc, ◌+◌, ◌*◌, ◌==◌, ◌&&◌, List, [], ◌∷◌, length, get_or, filter, refl, ap, ap₂, ◌∙◌, arith}
 use Rattle.std.specs.List.{AllZip, list_any, range_with_len}
-use Rattle.convoy_scenario.specs.Scenario.{Message, Scenario, GoesTo, no_message, message_at, message_numbers, is_addressed, takes_time}
+use Rattle.convoy_scenario.specs.Scenario.{Message, Scenario, GoesTo, no_message, message_at, message_numbers, is_addressed, stamp_takes_time, takes_time}
 use Rattle.convoy_scenario.proofs.TakingTime.{same_takes}
 use Rattle.convoy_packets.specs.declared.packet.Packet.TheVariants.{Multicast, Propose}
 use Rattle.convoy_packets.specs.ScheduleLaws.{is_sent}
@@ -44,10 +44,12 @@ module _ (k : ℕ) (plan fine : Scenario) (is : IsFiner k plan fine) where
   pub same_multicast : (m g : ℕ) → is_sent fine (Multicast m g) ≡ is_sent plan (Multicast m g)
   same_multicast m g =
       ap₂ (λ a b. a && b) (same_addressed m g)
-      (same_takes plan fine is.home (message_at fine m).sender g ∙ ap (λ sender. takes_time plan sender g) (same_message m).sender)
+      ((same_takes plan fine is.homes).messages (message_at fine m).sender g ∙ ap (λ sender. takes_time plan sender g) (same_message m).sender)
 
   pub same_propose : (m h g : ℕ) → is_sent fine (Propose m h g) ≡ is_sent plan (Propose m h g)
-  same_propose m h g = ap₂ (λ a b. a && b && not (h == g)) (same_addressed m h) (same_addressed m g)
+  same_propose m h g =
+      ap₂ (λ a b. a && b && stamp_takes_time fine h g) (same_addressed m h) (same_addressed m g)
+      ∙ ap (λ takes. is_addressed (message_at plan m) h && is_addressed (message_at plan m) g && takes) ((same_takes plan fine is.homes).stamps h g)
 
   -- what is issued at a tick is issued just then in finer ticks
   pub fixed_too : (m : ℕ) → (message_at plan m).longest_wait ≡ 0 → ((message_at fine m).at ≡ k * (message_at plan m).at) × ((message_at fine m).longest_wait ≡ 0)

@@ -120,13 +120,14 @@ texts_same grounds times text finer_text scenario finer say e f real =
     let there_real : there.draft.time ≡ Real = finer_kept.0 ∙ written_real in
     let has_tick : is_tick there.draft.time (Some tick) ≡ true = ap (is_tick there.draft.time) (sym finer_kept.1) ∙ (passes there.draft q.0).tick in
     let lasts = tick_some there.draft.time tick there_real has_tick in
-    let are = drafts_finer written times tick here.draft there.draft say.some lasts say.lasting ticked also in
+    let are = drafts_finer written times tick here.draft there.draft written_real say.some lasts say.lasting ticked also in
     let made = are.made in
     let plain = plain_draft written (Some (times * tick)) made.delay made.links made.messages in
     let more = option_map (finer_ticks times) made.least in
     let draft_is : here.draft ≡ record plain { links = (with_least made.least plain).links } = only_links made.least plain here.draft made.is in
     let finer_is : there.draft ≡ record (finer_draft times tick plain) { links = (with_least more (finer_draft times tick plain)).links } = only_links more (finer_draft times tick plain) there.draft are.finer_is in
-    let ranged : has_ranges (is_some made.least) (with_least made.least plain) ≡ true = rw (made.told, sym made.is) here.ranged in
+    let ranged : has_ranges (is_some made.least) (with_least made.least plain) ≡ true =
+    subst (λ (d : Draft). has_ranges (is_some made.least) d ≡ true) made.is (made.ranged here.ranged) in
     let read : AreRead times tick plain made.least = record {
       some = say.some;
       real = written_real;

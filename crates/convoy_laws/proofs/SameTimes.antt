@@ -4,7 +4,7 @@ use Rattle.std.specs.List.{AllZip, list_any, range_with_len}
 use Rattle.std.proofs.lemmas.Bool.{ltb-false}
 use Rattle.std.proofs.lemmas.List.{get_or-map}
 use Rattle.std.proofs.lemmas.Option.{same_Some, slice_get-get_or, slice_get_within}
-use Rattle.convoy_scenario.specs.Scenario.{Message, Scenario, no_message, message_at, message_numbers, is_addressed, range_between, takes_time, window_of}
+use Rattle.convoy_scenario.specs.Scenario.{Message, Scenario, no_message, message_at, message_numbers, is_addressed, range_between, stamp_takes_time, takes_time, window_of}
 use Rattle.convoy_packets.specs.declared.packet.Packet.{Packet}
 use Rattle.convoy_packets.specs.declared.packet.Packet.TheVariants.{Wait, Multicast, Propose}
 use Rattle.convoy_packets.specs.Packets.{packets_of, place_of}
@@ -68,7 +68,7 @@ module _ (scenario : Scenario) (messages : List Message) (alike : AllZip AreAlik
       ap₂ (λ a b. a && b) (same_addressed m g) (ap (λ sender. takes_time scenario sender g) (same_message m).sender)
 
   same_propose : (m h g : ℕ) → is_sent other (Propose m h g) ≡ is_sent scenario (Propose m h g)
-  same_propose m h g = ap₂ (λ a b. a && b && not (h == g)) (same_addressed m h) (same_addressed m g)
+  same_propose m h g = ap₂ (λ a b. a && b && stamp_takes_time scenario h g) (same_addressed m h) (same_addressed m g)
 
   module _ (used : Used) (schedule : Schedule) (fits : (m : ℕ) → IsWithin (window_of (message_at other m)) (issue scenario schedule m)) where
     -- each message waits until it is issued, and packets take as long as they did

@@ -3,7 +3,7 @@ use Rattle.std.proofs.Common.{◌≡◌, ℕ, suc, ◌+◌, ◌-◌, ◌*◌, �
 use Rattle.std.specs.List.{AllZip, flat_map, enumerate_from}
 use Rattle.std.proofs.lemmas.Bool.{cases_Bool, ltb-false}
 use Rattle.convoy_scenario.specs.declared.sender.Sender.{Sender}
-use Rattle.convoy_scenario.specs.Scenario.{Message, Scenario, GoesTo, may_wait, no_message, message_at, takes_time}
+use Rattle.convoy_scenario.specs.Scenario.{Message, Scenario, GoesTo, TakeTimeAlike, may_wait, no_message, message_at, stamp_takes_time, takes_time}
 use Rattle.convoy_scenario.proofs.TakingTime.{same_takes}
 use Rattle.convoy_packets.specs.declared.packet.Packet.{Packet}
 use Rattle.convoy_packets.specs.declared.packet.Packet.TheVariants.{Wait, Multicast, Propose}
@@ -52,20 +52,26 @@ packets_told plan m waits sender destinations = message_packets plan m (record {
 
 told_packets : (plan : Scenario) (m : ℕ) (message : Message) → message_packets plan m message ≡ packets_told plan m (may_wait message) message.sender message.destinations
 told_packets plan m message =
-    ap (λ (waits : Bool). (if waits then Wait m ∷ [] else []) ++ (multicast_packets plan m message ++ flat_map (propose_packets m message) message.destinations))
+    ap (λ (waits : Bool). (if waits then Wait m ∷ [] else []) ++ (multicast_packets plan m message ++ flat_map (propose_packets plan m message) message.destinations))
     (sym (may_wait_told (may_wait message))) where
       may_wait_told : (waits : Bool) → nat_lt 0 (if waits then 1 else 0) ≡ waits
       may_wait_told true = refl
       may_wait_told false = refl
 
 -- where the same takes time, a message has the same packets
-pub same_sends : (plan fine : Scenario) → ((sender : Sender) (to : ℕ) → takes_time fine sender to ≡ takes_time plan sender to)
-    → (m : ℕ) (message : Message) → message_packets fine m message ≡ message_packets plan m message
+pub same_sends : (plan fine : Scenario) → TakeTimeAlike plan fine → (m : ℕ) (message : Message) → message_packets fine m message ≡ message_packets plan m message
 same_sends plan fine takes m message =
-    ap (λ (gs : List ℕ). wait_packets m message ++ (map (λ g. Multicast m g) gs ++ flat_map (propose_packets m message) message.destinations))
-    (filter_same (takes_time fine message.sender) (takes_time plan message.sender) message.destinations (takes message.sender))
+    ap₂ (λ (gs : List ℕ) (stamps : List Packet). wait_packets m message ++ (map (λ g. Multicast m g) gs ++ stamps))
+    (filter_same (takes_time fine message.sender) (takes_time plan message.sender) message.destinations (takes.messages message.sender))
+    (same_stamps message.destinations) where
+      same_stamps : (hs : List ℕ) → flat_map (propose_packets fine m message) hs ≡ flat_map (propose_packets plan m message) hs
+      same_stamps [] = refl
+      same_stamps (h ∷ hs) =
+          ap₂ ◌++◌
+          (ap (map (λ g. Propose m h g)) (filter_same (stamp_takes_time fine h) (stamp_takes_time plan h) message.destinations (takes.stamps h)))
+          (same_stamps hs)
 
-module _ (k : ℕ) (plan fine : Scenario) (takes : (sender : Sender) (to : ℕ) → takes_time fine sender to ≡ takes_time plan sender to) where
+module _ (k : ℕ) (plan fine : Scenario) (takes : TakeTimeAlike plan fine) where
   packets_in : (n : ℕ) (xs ys : List Message) → AllZip (IsFinerMessage k) xs ys
       → ((m : ℕ) → may_wait (get_or ys m no_message) ≡ may_wait (get_or xs m no_message))
       → flat_map (λ p. message_packets fine p.0 p.1) (enumerate_from n ys) ≡ flat_map (λ p. message_packets plan p.0 p.1) (enumerate_from n xs)
@@ -105,7 +111,7 @@ module _ (sent : PacketsAreThoseSent) (k : ℕ) (plan fine : Scenario) (is : IsF
 
   same_packets : packets_of fine ≡ packets_of plan
   unfolding packets_of
-  same_packets = packets_in k plan fine (same_takes plan fine is.home) 0 plan.multicasts fine.multicasts is.messages waits_too
+  same_packets = packets_in k plan fine (same_takes plan fine is.homes) 0 plan.multicasts fine.multicasts is.messages waits_too
 
   same_list : ranges_of fine ≡ map (finer_range k) (ranges_of plan)
   unfolding ranges_of

@@ -2,7 +2,7 @@
 use Rattle.std.proofs.Common.{◌≡◌, ℕ, zero, suc, ◌<◌, ◌==◌, ◌&&◌, leb, Bool, true, false, not, List, [], ◌∷◌, length, get_or, map, take, Option, Some, None, flat_map, inl, inr, refl, sym, ap, subst, ◌∙◌, arith}
 use Rattle.std.specs.List.{list_all, list_any, IsDistinct}
 use Rattle.std.specs.Str.{bytes_eq}
-use Rattle.std.proofs.lemmas.Bool.{and_parts, eqb-true, eqb-false, false≢true, false_from_ne_true, leb-true, not-true, or_right}
+use Rattle.std.proofs.lemmas.Bool.{and_parts, eqb-true, eqb-false, false≢true, false_from_ne_true, leb-true, or_right}
 use Rattle.std.proofs.lemmas.List.{take_all}
 use Rattle.std.proofs.lemmas.List.Elements.{Contains-get_or}
 use Rattle.convoy_draft.specs.declared.limits.TheConstants.{MOST_GROUPS}
@@ -11,7 +11,7 @@ use Rattle.convoy_draft.specs.Draft.{Draft, DraftMessage}
 use Rattle.convoy_scenario.specs.declared.sender.Sender.{Sender}
 use Rattle.convoy_scenario.specs.declared.sender.Sender.TheVariants.{Group}
 use Rattle.convoy_scenario.specs.Numbering.{message_of, numbers_of, place, scenario_of, sender_of}
-use Rattle.convoy_scenario.specs.Scenario.{Message, is_addressed, is_same_sender, message_at, no_message, takes_time}
+use Rattle.convoy_scenario.specs.Scenario.{Message, is_addressed, is_same_sender, message_at, no_message, stamp_takes_time, takes_time}
 use Rattle.convoy_scenario.proofs.NumberedAgain.{itself, one_place, place_again, same_bytes}
 use Rattle.convoy_scenario.proofs.NumberedLemmas.{Passes, groups_distinct}
 use Rattle.convoy_packets.specs.declared.packet.Packet.{Packet}
@@ -109,9 +109,9 @@ module _ (draft : Draft) (passed : Passes draft) where
       let at : place name groups ≡ g = ap (λ n. place n groups) same ∙ place_again groups g distinct below in
       eqb-false (place name groups) g apart at))
 
-  other_name : (h g : ℕ) → h < length groups → g < length groups → not (h == g) ≡ true → not (bytes_eq (get_or groups h []) (get_or groups g [])) ≡ true
+  other_name : (h g : ℕ) → h < length groups → g < length groups → (h == g) ≡ false → not (bytes_eq (get_or groups h []) (get_or groups g [])) ≡ true
   other_name h g low high other =
-      ap not (false_from_ne_true _ (λ e. eqb-false h g (not-true (h == g) other) (one_place groups h g distinct low high (same_bytes _ _ e))))
+      ap not (false_from_ne_true _ (λ e. eqb-false h g other (one_place groups h g distinct low high (same_bytes _ _ e))))
 
   pub goes : (packet : Packet) → is_wait packet ≡ false → is_sent (scenario_of draft) packet ≡ true → is_same_sender (packet_sender (scenario_of draft) packet) (Group (receiver_of packet)) ≡ false
       → Goes draft (packet_sender (scenario_of draft) packet) (receiver_of packet)
@@ -132,7 +132,7 @@ module _ (draft : Draft) (passed : Passes draft) where
             (rw (other_sender message.written.sender g to.below away, to.among, alike_itself message.written.sender) refl);
       }
   goes (Propose m h g) travels sent apart =
-      let parts = and_parts (is_addressed (message_at (scenario_of draft) m) h && is_addressed (message_at (scenario_of draft) m) g) (not (h == g)) sent in
+      let parts = and_parts (is_addressed (message_at (scenario_of draft) m) h && is_addressed (message_at (scenario_of draft) m) g) (stamp_takes_time (scenario_of draft) h g) sent in
       let both = and_parts (is_addressed (message_at (scenario_of draft) m) h) (is_addressed (message_at (scenario_of draft) m) g) parts.0 in
       let message = written_at groups draft.messages m h both.0 in
       let by : is_addressed (message_of groups message.written) h ≡ true = rw (message.is) at both.0 in
@@ -145,5 +145,5 @@ module _ (draft : Draft) (passed : Passes draft) where
         there = place_again groups g distinct receiver.below;
         between = rw all_groups (way_between groups (Some (get_or groups h [])) (get_or groups g []) (list_any_in (bytes_eq (get_or groups h [])) (get_or groups h []) groups (name_in groups h sender.below) (itself (get_or groups h []))) (name_in groups g receiver.below));
         carried = list_any_in (carries (way_to (Some (get_or groups h [])) (get_or groups g []))) message.written draft.messages message.there
-            (rw (other_name h g sender.below receiver.below parts.1, receiver.among) (or_right (is_named_alike (Some (get_or groups h [])) message.written.sender) (is_among (get_or groups h []) message.written.to) sender.among));
+            (rw (other_name h g sender.below receiver.below apart, receiver.among) (or_right (is_named_alike (Some (get_or groups h [])) message.written.sender) (is_among (get_or groups h []) message.written.to) sender.among));
       }

@@ -3,8 +3,7 @@ use Rattle.std.specs.Prelude.{◌≡◌, ℕ, ◌+◌, ◌*◌, ◌≤◌, lengt
 use Rattle.std.specs.List.{AllZip}
 use Rattle.convoy_draft.specs.declared.time.Time.TheVariants.{Real}
 use Rattle.convoy_draft.specs.declared.limits.TheConstants.{MOST_GROUPS, MOST_MULTICASTS}
-use Rattle.convoy_scenario.specs.declared.sender.Sender.TheVariants.{Group}
-use Rattle.convoy_scenario.specs.Scenario.{GoesTo, Message, Scenario, takes_time}
+use Rattle.convoy_scenario.specs.Scenario.{GoesTo, HaveSameHomes, Message, Scenario}
 use Rattle.convoy_scenario.specs.WellFormed.{IsMulticast, IsScenario}
 use Rattle.convoy_packets.specs.declared.packet.Packet.{Packet}
 use Rattle.convoy_packets.specs.Packets.{is_wait}
@@ -29,7 +28,7 @@ pub record IsFiner (times : ℕ) (scenario finer : Scenario) : Type 0 where
   pub some : 1 ≤ times
   pub groups : length finer.groups ≡ length scenario.groups
   pub messages : AllZip (IsFinerMessage times) scenario.multicasts finer.multicasts
-  pub home : (g : ℕ) → takes_time finer (Group g) g ≡ takes_time scenario (Group g) g
+  pub homes : HaveSameHomes scenario finer
   pub ranges : (packet : Packet) → IsTrue (is_sent scenario packet) → IsFalse (is_wait packet) → IsInRange times (range_of scenario packet) (range_of finer packet)
   pub target_message : finer.target_message ≡ scenario.target_message
   pub target_group : finer.target_group ≡ scenario.target_group

@@ -67,7 +67,7 @@ late_stays_open = refl
 
 -- the link from b to a, where each packet takes 3 ticks, and w arrives at a late in any case
 slow : List Link
-slow = record { sender = Group 1; to = 0; least = 3; most = 3 } ∷ []
+slow = record { sender = Group 1; to = 0; least = 3; most = 3; stamps = false } ∷ []
 
 slow_is_behind : is_behind (late slow) (tables_by (windows_of (late slow) (root_of (late slow)))) 0 ≡ true
 unfolding late slow message packets_of ranges_of delay_of arrive settle leads_of sure_time is_led
@@ -100,7 +100,7 @@ six_groups_stays_open = refl
 tied : Time → Scenario
 tied time = record (of_two time 5 (message (codes "w") (Group 1) (0 ∷ 1 ∷ 2 ∷ []) 3 ∷ message (codes "t") (Group 1) (0 ∷ 1 ∷ []) 2 ∷ []) 1 1) {
   groups = codes "a" ∷ codes "b" ∷ codes "c" ∷ [];
-  links = record { sender = Group 1; to = 0; least = 1; most = 3 } ∷ record { sender = Group 0; to = 1; least = 1; most = 1 } ∷ [];
+  links = record { sender = Group 1; to = 0; least = 1; most = 3; stamps = false } ∷ record { sender = Group 0; to = 1; least = 1; most = 1; stamps = false } ∷ [];
 }
 
 -- so in whole ticks t never waits for w, ..

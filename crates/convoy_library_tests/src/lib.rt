@@ -1,6 +1,7 @@
 //! Callers of Convoy as a library, each a few lines with a contract of its own that is proved from public contracts
-//! alone (docs/CALLING.md); and tests of what the program cannot show: these callers, boards and hands, the machine of
-//! the events of many workers, and workers that wait for one another.
+//! alone (docs/CALLING.md); tests of what the program cannot show: these callers, boards and hands, the machine of the
+//! events of many workers, and workers that wait for one another; and worked traces, tables of round trips and
+//! certificates of plans.
 #![tactic(auto)]
 
 pub use building::exchange;
@@ -18,11 +19,17 @@ mod boards;
 mod building;
 mod checking;
 mod fault;
+#[cfg(test)]
+mod fits;
 mod greatest;
 #[cfg(test)]
 mod ledgers;
 #[cfg(test)]
 mod machine;
+#[cfg(test)]
+mod plan_certificates;
+#[cfg(test)]
+mod ranges;
 mod records;
 #[cfg(test)]
 mod scenarios;
@@ -31,6 +38,10 @@ mod schedule;
 mod schedules;
 mod tickets;
 mod timeout;
+#[cfg(test)]
+mod trace_ranges;
+#[cfg(test)]
+mod traces;
 mod traffic;
 #[cfg(test)]
 mod uses;

@@ -9,8 +9,7 @@ use Rattle.convoy_ceiling.specs.Ceiling.{ceiling_at, ceiling_of, delays_between,
 use Rattle.convoy_orders.specs.ListedOrder.{CeilingIsSame}
 use Rattle.convoy_orders.specs.Renumbered.{IsRenumbered, renumbered_sender}
 use Rattle.convoy_orders.proofs.Lists.{map_same}
-use Rattle.convoy_orders.proofs.Renumbering.{same_number}
-use Rattle.convoy_orders.proofs.SameParts.{same_greatest, same_numbers, takes_too}
+use Rattle.convoy_orders.proofs.SameParts.{same_greatest, same_numbers, stamp_takes_too, takes_too}
 
 module _ (renumber back : ℕ → ℕ) (plan other : Scenario) (is : IsRenumbered renumber back plan other) where
   same_delays : (sender : Sender) (to : ℕ) → delays_between other (renumbered_sender renumber sender) (renumber to) ≡ delays_between plan sender to
@@ -19,7 +18,7 @@ module _ (renumber back : ℕ → ℕ) (plan other : Scenario) (is : IsRenumbere
 
   same_stamps : (from to : ℕ) → stamp_delays other (renumber from) (renumber to) ≡ stamp_delays plan from to
   same_stamps from to =
-      ap₂ (λ (b : Bool) (range : ℕ × ℕ). if b then (0, 0) else range) (same_number renumber back is.back_again from to) (is.ranges (Group from) to)
+      ap₂ (λ (b : Bool) (range : ℕ × ℕ). if b then range else (0, 0)) (stamp_takes_too renumber back plan other is from to) (is.ranges (Group from) to)
 
   sender_delays : (m to : ℕ) → delays_between other (message_at other m).sender (renumber to) ≡ delays_between plan (message_at plan m).sender to
   sender_delays m to =

@@ -21,7 +21,7 @@ unchanged plan = record {
   time = refl;
   message_count = refl;
   messages = λ m. record { sender = sym (sender_itself (message_at plan m).sender); destinations = λ g. refl; at = refl; wait = refl };
-  home = λ g. refl;
+  homes = record { messages = λ g. refl; stamps = λ g. refl };
   ranges = λ sender to. ap (λ (s : Sender). range_between plan s to) (sender_itself sender);
   target_message = refl;
   target_group = refl;
@@ -40,7 +40,7 @@ composed first back_first then back_then plan middle other is too = record {
     at = (too.messages m).at ∙ (is.messages m).at;
     wait = (too.messages m).wait ∙ (is.messages m).wait;
   };
-  home = λ g. too.home (first g) ∙ is.home g;
+  homes = record { messages = λ g. too.homes.messages (first g) ∙ is.homes.messages g; stamps = λ g. too.homes.stamps (first g) ∙ is.homes.stamps g };
   ranges = λ sender to.
       ap (λ (s : Sender). range_between other s (then (first to))) (sym (sender_twice first then sender))
       ∙ too.ranges (renumbered_sender first sender) (first to)

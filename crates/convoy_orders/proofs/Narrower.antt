@@ -1,14 +1,14 @@
 -- One scenario with two choices of links: each run with narrower ranges is one with the wider ones.
-use Rattle.std.proofs.Common.{◌≡◌, ℕ, ◌≤◌, Bool, List, [], ◌∷◌, ◌++◌, map, refl, sym, ap, subst, arith}
+use Rattle.std.proofs.Common.{◌≡◌, ℕ, ◌≤◌, Bool, List, [], ◌∷◌, ◌++◌, map, refl, sym, ap₂, subst, arith}
 use Rattle.std.specs.List.{enumerate_from, filter, flat_map}
 use Rattle.std.proofs.Math.Path.{fun_ext}
 use Rattle.convoy_scenario.specs.declared.sender.Sender.{Sender}
 use Rattle.convoy_scenario.specs.declared.sender.Sender.TheVariants.{Group}
-use Rattle.convoy_scenario.specs.Scenario.{Link, Message, Scenario, message_at, takes_time}
+use Rattle.convoy_scenario.specs.Scenario.{Link, Message, Scenario, message_at, stamp_takes_time, takes_time}
 use Rattle.convoy_scenario.specs.ScenarioLaws.{HomesDecideWhatTakesTime}
 use Rattle.convoy_packets.specs.declared.packet.Packet.{Packet}
 use Rattle.convoy_packets.specs.declared.packet.Packet.TheVariants.{Wait, Multicast, Propose}
-use Rattle.convoy_packets.specs.Packets.{packets_of, propose_packets, wait_packets}
+use Rattle.convoy_packets.specs.Packets.{packets_of, wait_packets}
 use Rattle.convoy_packets.specs.Assignment.{AreWithin, IsAssignment, Schedule, range_of, ranges_of}
 use Rattle.convoy_orders.proofs.SameOrder.{same_order}
 use Rattle.convoy_orders.proofs.SamePackets.{same_latency}
@@ -31,18 +31,24 @@ module _ (decide : HomesDecideWhatTakesTime) (plan : Scenario) (delay : ℕ) (li
   narrowed = with_links delay links plan
 
   same_takes : takes_time narrowed ≡ takes_time plan
-  same_takes = fun_ext (λ sender. fun_ext (λ to. decide plan narrowed narrow.home sender to))
+  same_takes = fun_ext (λ sender. fun_ext (λ to. (decide plan narrowed narrow.homes).messages sender to))
+
+  same_stamps : stamp_takes_time narrowed ≡ stamp_takes_time plan
+  same_stamps = fun_ext (λ from. fun_ext (λ to. (decide plan narrowed narrow.homes).stamps from to))
 
   -- the packets of the messages, where what takes time is told
-  abbrev packets_where : (Sender → ℕ → Bool) → List Packet
-  packets_where takes =
+  abbrev packets_where : (Sender → ℕ → Bool) → (ℕ → ℕ → Bool) → List Packet
+  packets_where takes stamp_takes =
       flat_map
-      (λ (p : ℕ × Message). wait_packets p.0 p.1 ++ (map (λ g. Multicast p.0 g) (filter (takes p.1.sender) p.1.destinations) ++ flat_map (propose_packets p.0 p.1) p.1.destinations))
+      (λ (p : ℕ × Message).
+      wait_packets p.0 p.1
+      ++ (map (λ g. Multicast p.0 g) (filter (takes p.1.sender) p.1.destinations)
+      ++ flat_map (λ h. map (λ g. Propose p.0 h g) (filter (stamp_takes h) p.1.destinations)) p.1.destinations))
       (enumerate_from 0 plan.multicasts)
 
   same_packets : packets_of narrowed ≡ packets_of plan
   unfolding packets_of
-  same_packets = ap packets_where same_takes
+  same_packets = ap₂ packets_where same_takes same_stamps
 
   packet_range : (p : Packet) → IsWithinRange (range_of narrowed p) (range_of plan p)
   packet_range (Wait m) = (omega arith, omega arith)

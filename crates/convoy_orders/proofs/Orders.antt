@@ -29,14 +29,14 @@ first_listed place x (y ∷ ys) =
       | inr l ↦ (x, inl refl, λ h i. elim i [ inl e ↦ (let same = ap place e in omega arith) | inr later ↦ (let least = rest.2 h later in omega arith) ])
     ]
 
-first_of : (place : ℕ → ℕ) (xs : List ℕ) → 0 < length xs → (g : ℕ) × IsIn g xs × ((h : ℕ) → IsIn h xs → place g ≤ place h)
+pub first_of : (place : ℕ → ℕ) (xs : List ℕ) → 0 < length xs → (g : ℕ) × IsIn g xs × ((h : ℕ) → IsIn h xs → place g ≤ place h)
 first_of place [] l = absurd (omega arith)
 first_of place (x ∷ xs) l = first_listed place x xs
 
 module _ (agree : RenumberedRunsAgree) (later : FewerBehindIsNoLater) (renumber back : ℕ → ℕ) (plan other : Scenario)
     (well : IsScenario plan) (well_too : IsScenario other) (is : IsRenumbered renumber back plan other) where
   -- a message is as late where its group is listed before all these groups
-  late_too : (groups : List ℕ) (m g late : ℕ) → ((h : ℕ) → Contains groups h → renumber g ≤ renumber h) → IsHeldUp plan groups m g late → IsLate other m (renumber g) late
+  pub late_too : (groups : List ℕ) (m g late : ℕ) → ((h : ℕ) → Contains groups h → renumber g ≤ renumber h) → IsHeldUp plan groups m g late → IsLate other m (renumber g) late
   late_too groups m g late first held =
       let across = composed back renumber held.renumber held.back other plan held.listed (turned renumber back plan other is) held.is in
       let run = held.run in

@@ -1,7 +1,7 @@
 -- A draft and the same draft with its groups listed in another order give scenarios that are one but for the numbers of the groups.
-use Rattle.std.proofs.Common.{◌≡◌, ℕ, ◌<◌, ◌==◌, ◌&&◌, ◌||◌, not, Bool, true, List, [], ◌∷◌, length, get_or, map, Option, Some, Ok, inl, inr, refl, sym, ap, ap₂, subst₂, ◌∙◌, arith}
+use Rattle.std.proofs.Common.{◌≡◌, ℕ, ◌<◌, ◌==◌, ◌&&◌, ◌||◌, not, Bool, true, false, List, [], ◌∷◌, length, get_or, map, Option, Some, Ok, inl, inr, refl, sym, ap, ap₂, subst₂, ◌∙◌, arith}
 use Rattle.std.specs.List.{find, list_all}
-use Rattle.std.specs.Option.{is_some}
+use Rattle.std.specs.Option.{is_some, option_map_or}
 use Rattle.std.proofs.lemmas.Bool.{cases_Bool, cases_lt, and_parts}
 use Rattle.std.proofs.lemmas.List.{length-map, get_or-map, get_or_past}
 use Rattle.std.proofs.lemmas.List.Sorted.{IsPermutation-sym, length_permutation}
@@ -10,13 +10,13 @@ use Rattle.convoy_draft.specs.Draft.{Draft, DraftLink, DraftMessage}
 use Rattle.convoy_draft.specs.Checks.{checks, is_among, is_known_sender, judge, knows, knows_link}
 use Rattle.convoy_scenario.specs.declared.sender.Sender.{Sender}
 use Rattle.convoy_scenario.specs.declared.sender.Sender.TheVariants.{Group}
-use Rattle.convoy_scenario.specs.Scenario.{Link, Scenario, is_same_sender, message_at, no_message, range_between, takes_time}
+use Rattle.convoy_scenario.specs.Scenario.{Link, Scenario, is_same_sender, message_at, no_message, range_between, stamp_takes_time, takes_time}
 use Rattle.convoy_scenario.specs.ScenarioLaws.{OrderKeepsRanges, OrderKeepsWhatTakesTime}
-use Rattle.convoy_scenario.specs.Numbering.{delay_of_draft, link_of, links_of_draft, message_of, place, scenario_of, scenario_of_draft}
+use Rattle.convoy_scenario.specs.Numbering.{delay_of_draft, link_of, links_of_draft, message_of, place, scenario_of, scenario_of_draft, sender_of}
 use Rattle.convoy_scenario.proofs.GivenScenarios.{given, passed}
 use Rattle.convoy_scenario.proofs.KeptRanges.{leads, range_found}
 use Rattle.convoy_scenario.proofs.NumberedLemmas.{Passes, groups_distinct, nothing, passes}
-use Rattle.convoy_orders.specs.Renumbered.{IsRenumbered, IsRenumberedMessage, renumbered_sender}
+use Rattle.convoy_orders.specs.Renumbered.{HaveRenumberedHomes, IsRenumbered, IsRenumberedMessage, renumbered_sender}
 use Rattle.convoy_orders.specs.Relisted.{number_in, relisted, RelistedDraftsAreRenumbered}
 use Rattle.convoy_orders.proofs.Renumbering.{same_number, same_sender}
 use Rattle.convoy_orders.proofs.RelistedNames.{addressed_renumbered, all_among, number_back, number_of_name, sender_renumbered}
@@ -26,14 +26,18 @@ abbrev AreRangesOf : Draft → Type 0
 AreRangesOf draft =
     (sender : Sender) (to : ℕ) → range_between (scenario_of draft) sender to ≡ range_found (delay_of_draft draft) (find (leads sender to) (links_of_draft draft))
 
--- .. and a group has a link to itself where one is written
-abbrev AreHomesOf : Draft → Type 0
-AreHomesOf draft =
-    (g : ℕ) → takes_time (scenario_of draft) (Group g) g ≡ (not (g == g) || is_some (find (leads (Group g) g) (links_of_draft draft)))
+-- a link that is found is for stamps, too
+abbrev pub stamps_of : Option Link → Bool
+stamps_of found = option_map_or (λ (link : Link). link.stamps) found false
+
+-- .. and a group has a link to itself where one is written, for stamps where that is
+pub record AreHomesOf (draft : Draft) : Type 0 where
+  pub messages : (g : ℕ) → takes_time (scenario_of draft) (Group g) g ≡ (not (g == g) || is_some (find (leads (Group g) g) (links_of_draft draft)))
+  pub stamps : (g : ℕ) → stamp_takes_time (scenario_of draft) g g ≡ (not (g == g) || stamps_of (find (leads (Group g) g) (links_of_draft draft)))
 
 module _ (draft : Draft) (names : List (List ℕ)) (long : length names ≡ length draft.groups)
     (all : (g : ℕ) → g < length draft.groups → is_among (get_or draft.groups g []) names ≡ true) (is : Passes draft) (too : Passes (relisted names draft))
-    (kept : AreRangesOf draft) (kept_too : AreRangesOf (relisted names draft)) (home : AreHomesOf draft) (home_too : AreHomesOf (relisted names draft)) where
+    (kept : AreRangesOf draft) (kept_too : AreRangesOf (relisted names draft)) (homes : AreHomesOf draft) (homes_too : AreHomesOf (relisted names draft)) where
   abbrev plan : Scenario
   plan = scenario_of draft
 
@@ -83,7 +87,8 @@ module _ (draft : Draft) (names : List (List ℕ)) (long : length names ≡ leng
       (ap (λ n. renumber to == n) (number_of_name draft.groups names long all link.to k.1) ∙ same_number renumber back again to (place link.to draft.groups))
 
   -- what is told alike of a link with its groups listed either way is told alike of the link that is found
-  module _ {A : Type 0} (told : Option Link → A) (alike : (link : DraftLink) → told (Some (link_of names link)) ≡ told (Some (link_of draft.groups link))) where
+  module _ {A : Type 0} (told : Option Link → A)
+      (alike : (link : DraftLink) → knows_link draft.groups link ≡ true → told (Some (link_of names link)) ≡ told (Some (link_of draft.groups link))) where
     found_too : (sender : Sender) (to : ℕ) (links : List DraftLink) → list_all (knows_link draft.groups) links ≡ true
         → told (find (leads (renumbered_sender renumber sender) (renumber to)) (map (link_of names) links)) ≡ told (find (leads sender to) (map (link_of draft.groups) links))
     found_too sender to [] known = refl
@@ -92,21 +97,35 @@ module _ (draft : Draft) (names : List (List ℕ)) (long : length names ≡ leng
         let rest = found_too sender to links k.1 in
         let same = leads_too sender to link k.0 in
         elim (cases_Bool (leads sender to (link_of draft.groups link))) [
-          | inl there ↦ rw (same, there) (alike link)
+          | inl there ↦ rw (same, there) (alike link k.0)
           | inr elsewhere ↦ rw (same, elsewhere) rest
         ]
 
   range_too : (sender : Sender) (to : ℕ) → range_between other (renumbered_sender renumber sender) (renumber to) ≡ range_between plan sender to
   range_too sender to =
       kept_too (renumbered_sender renumber sender) (renumber to)
-      ∙ found_too (range_found (delay_of_draft draft)) (λ link. refl) sender to draft.links is.ends
+      ∙ found_too (range_found (delay_of_draft draft)) (λ link known. refl) sender to draft.links is.ends
       ∙ sym (kept sender to)
 
-  home_is : (g : ℕ) → takes_time other (Group (renumber g)) (renumber g) ≡ takes_time plan (Group g) g
-  home_is g =
-      home_too (renumber g)
-      ∙ ap₂ (λ (same found : Bool). not same || found) (same_number renumber back again g g) (found_too is_some (λ link. refl) (Group g) g draft.links is.ends)
-      ∙ sym (home g)
+  -- a link is for stamps with its groups listed either way
+  stamps_too : (link : DraftLink) → knows_link draft.groups link ≡ true → (link_of names link).stamps ≡ (link_of draft.groups link).stamps
+  stamps_too link known =
+      let k = and_parts (is_known_sender draft.groups link.sender) (is_among link.to draft.groups) known in
+      ap (λ (home : Bool). link.stamps && home)
+      (ap₂ (λ (s : Sender) (to : ℕ). is_same_sender s (Group to)) (sender_renumbered draft.groups names long all link.sender k.0) (number_of_name draft.groups names long all link.to k.1)
+      ∙ same_sender renumber back again (sender_of draft.groups link.sender) (Group (place link.to draft.groups)))
+
+  same_homes : HaveRenumberedHomes renumber plan other
+  same_homes = record {
+    messages = λ g.
+        homes_too.messages (renumber g)
+        ∙ ap₂ (λ (same found : Bool). not same || found) (same_number renumber back again g g) (found_too is_some (λ link known. refl) (Group g) g draft.links is.ends)
+        ∙ sym (homes.messages g);
+    stamps = λ g.
+        homes_too.stamps (renumber g)
+        ∙ ap₂ (λ (same found : Bool). not same || found) (same_number renumber back again g g) (found_too stamps_of stamps_too (Group g) g draft.links is.ends)
+        ∙ sym (homes.stamps g);
+  }
 
   module _ (no_others : (g : ℕ) → g < length names → is_among (get_or names g []) draft.groups ≡ true) where
     pub renumbered_too : IsRenumbered renumber back plan other
@@ -116,7 +135,7 @@ module _ (draft : Draft) (names : List (List ℕ)) (long : length names ≡ leng
       time = refl;
       message_count = length-map draft.messages (message_of names) ∙ sym (length-map draft.messages (message_of draft.groups));
       messages = messages_too;
-      home = home_is;
+      homes = same_homes;
       ranges = range_too;
       target_message = refl;
       target_group = number_of_name draft.groups names long all draft.target_group is.target_group;
@@ -128,7 +147,7 @@ pub record IsGiven (draft : Draft) (plan : Scenario) : Type 0 where
   pub passes : Passes draft
   pub made : scenario_of draft ≡ plan
   pub kept : AreRangesOf draft
-  pub home : AreHomesOf draft
+  pub homes : AreHomesOf draft
 
 pub is_given : OrderKeepsRanges → OrderKeepsWhatTakesTime → (draft : Draft) (plan : Scenario) → scenario_of_draft draft ≡ Ok plan → IsGiven draft plan
 is_given kept takes draft plan is =
@@ -138,7 +157,9 @@ is_given kept takes draft plan is =
       passes = passes draft p.0;
       made = p.1;
       kept = λ sender to. kept draft (scenario_of draft) sender to (given draft p.0 p.2);
-      home = λ g. takes draft (scenario_of draft) (Group g) g (given draft p.0 p.2);
+      homes =
+          let alike = takes draft (scenario_of draft) (given draft p.0 p.2) in
+          record { messages = λ g. alike.messages (Group g) g; stamps = λ g. alike.stamps g g };
     }
 
 pub drafts_renumbered : OrderKeepsRanges → OrderKeepsWhatTakesTime → RelistedDraftsAreRenumbered
@@ -147,4 +168,4 @@ drafts_renumbered kept takes draft names plan other of =
     let its = is_given kept takes (relisted names draft) other of.other_is in
     subst₂ (IsRenumbered (number_in names draft.groups) (number_in draft.groups names)) mine.made its.made
     (renumbered_too draft names (length_permutation draft.groups names of.same) (λ g l. all_among names draft.groups (IsPermutation-sym draft.groups names of.same) g [] l)
-    mine.passes its.passes mine.kept its.kept mine.home its.home (λ g l. all_among draft.groups names of.same g [] l))
+    mine.passes its.passes mine.kept its.kept mine.homes its.homes (λ g l. all_among draft.groups names of.same g [] l))

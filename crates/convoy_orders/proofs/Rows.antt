@@ -3,7 +3,7 @@ use Rattle.std.proofs.Common.{◌≡◌, ℕ, ◌≤◌, zero, suc, Bool, false,
 use Rattle.std.specs.List.{Contains}
 use Rattle.std.proofs.lemmas.Bool.{eq-eqb, ne_eqb}
 use Rattle.convoy_scenario.specs.declared.sender.Sender.TheVariants.{Group}
-use Rattle.convoy_scenario.specs.Scenario.{GoesTo, Scenario, is_addressed, message_at, takes_time}
+use Rattle.convoy_scenario.specs.Scenario.{GoesTo, Scenario, is_addressed, message_at, stamp_takes_time, takes_time}
 use Rattle.convoy_packets.specs.Packets.{packets_of}
 use Rattle.convoy_packets.specs.Assignment.{Schedule, IsAssignment, IsWithin, delay_of, in_fixed_order, ranges_of}
 use Rattle.convoy_packets.specs.Order.{no_order}
@@ -62,6 +62,10 @@ both_home : (h g : ℕ) → takes_time swapped (Group h) h ≡ takes_time base (
 unfolding base_with swapped message
 both_home h g = rw (eq-eqb h h refl, eq-eqb g g refl) refl
 
+both_stamps : (h g : ℕ) → stamp_takes_time swapped h h ≡ stamp_takes_time base g g
+unfolding base_with swapped message
+both_stamps h g = rw (eq-eqb h h refl, eq-eqb g g refl) refl
+
 is_swapped : IsRenumbered swap swap base swapped
 unfolding base_with swapped message
 is_swapped = record {
@@ -70,7 +74,7 @@ is_swapped = record {
   time = refl;
   message_count = refl;
   messages = both_there;
-  home = λ g. both_home (swap g) g;
+  homes = record { messages = λ g. both_home (swap g) g; stamps = λ g. both_stamps (swap g) g };
   ranges = λ sender to. refl;
   target_message = refl;
   target_group = refl;

@@ -1,10 +1,10 @@
 -- What two scenarios have in common that are one but for the order of their groups: which messages go where, which packets there are, and their ranges.
-use Rattle.std.proofs.Common.{◌≡◌, ℕ, ◌==◌, ◌≤◌, max, Bool, ◌&&◌, not, nat_lt, inl, inr, map, fold, refl, sym, ap, ap₂, subst, ◌∙◌, arith}
+use Rattle.std.proofs.Common.{◌≡◌, ℕ, ◌==◌, ◌≤◌, max, Bool, ◌&&◌, nat_lt, inl, inr, map, fold, refl, sym, ap, ap₂, subst, ◌∙◌, arith}
 use Rattle.std.specs.List.{range_with_len}
 use Rattle.std.proofs.lemmas.Bool.{cases_Bool, eqb-true}
 use Rattle.convoy_scenario.specs.declared.sender.Sender.{Sender}
 use Rattle.convoy_scenario.specs.declared.sender.Sender.TheVariants.{Client, Group}
-use Rattle.convoy_scenario.specs.Scenario.{Scenario, GoesTo, message_at, message_numbers, is_addressed, range_between, takes_time}
+use Rattle.convoy_scenario.specs.Scenario.{Scenario, GoesTo, message_at, message_numbers, is_addressed, range_between, stamp_takes_time, takes_time}
 use Rattle.convoy_packets.specs.declared.packet.Packet.{Packet}
 use Rattle.convoy_packets.specs.declared.packet.Packet.TheVariants.{Wait, Multicast, Propose}
 use Rattle.convoy_packets.specs.Assignment.{range_of}
@@ -32,8 +32,15 @@ module _ (renumber back : ℕ → ℕ) (plan other : Scenario) (is : IsRenumbere
   takes_too Client to = refl
   takes_too (Group g) to = elim (cases_Bool (g == to)) [
     | inl home ↦
-        subst (λ (k : ℕ). takes_time other (Group (renumber k)) (renumber to) ≡ takes_time plan (Group k) to) (sym (eqb-true g to home)) (is.home to)
+        subst (λ (k : ℕ). takes_time other (Group (renumber k)) (renumber to) ≡ takes_time plan (Group k) to) (sym (eqb-true g to home)) (is.homes.messages to)
     | inr away ↦ rw (same_number renumber back is.back_again g to, away) refl
+  ]
+
+  pub stamp_takes_too : (from to : ℕ) → stamp_takes_time other (renumber from) (renumber to) ≡ stamp_takes_time plan from to
+  stamp_takes_too from to = elim (cases_Bool (from == to)) [
+    | inl home ↦
+        subst (λ (k : ℕ). stamp_takes_time other (renumber k) (renumber to) ≡ stamp_takes_time plan k to) (sym (eqb-true from to home)) (is.homes.stamps to)
+    | inr away ↦ rw (same_number renumber back is.back_again from to, away) refl
   ]
 
   -- ---- packets
@@ -43,8 +50,7 @@ module _ (renumber back : ℕ → ℕ) (plan other : Scenario) (is : IsRenumbere
       ap₂ (λ (a b : Bool). a && b) ((is.messages m).destinations g)
       (ap (λ (s : Sender). takes_time other s (renumber g)) (is.messages m).sender ∙ takes_too (message_at plan m).sender g)
   same_sent (Propose m h g) =
-      ap₂ (λ (a b : Bool). a && b && not (renumber h == renumber g)) ((is.messages m).destinations h) ((is.messages m).destinations g)
-      ∙ ap (λ (b : Bool). is_addressed (message_at plan m) h && is_addressed (message_at plan m) g && not b) (same_number renumber back is.back_again h g)
+      ap₂ (λ (a b : Bool). a && b) (ap₂ (λ (a b : Bool). a && b) ((is.messages m).destinations h) ((is.messages m).destinations g)) (stamp_takes_too h g)
 
   pub same_range : (p : Packet) → range_of other (renumbered_packet renumber p) ≡ range_of plan p
   same_range (Wait m) = ap (λ (n : ℕ). (0, n)) (is.messages m).wait
@@ -89,7 +95,10 @@ module _ (renumber back : ℕ → ℕ) (plan other : Scenario) (is : IsRenumbere
     time = sym is.time;
     message_count = sym is.message_count;
     messages = message_back;
-    home = λ g. sym (is.home (back g)) ∙ ap (λ (k : ℕ). takes_time other (Group k) k) (is.there_again g);
+    homes = record {
+      messages = λ g. sym (is.homes.messages (back g)) ∙ ap (λ (k : ℕ). takes_time other (Group k) k) (is.there_again g);
+      stamps = λ g. sym (is.homes.stamps (back g)) ∙ ap (λ (k : ℕ). stamp_takes_time other k k) (is.there_again g);
+    };
     ranges = λ sender to.
         sym (is.ranges (renumbered_sender back sender) (back to))
         ∙ ap₂ (range_between other) (sender_again back renumber is.there_again sender) (is.there_again to);

@@ -17,10 +17,11 @@ relinked delay links draft = record draft { delay = delay; links = links }
 abbrev pub written_range : DraftLink → ℕ × ℕ
 written_range link = (ticks GREATEST_DELAY link.least, ticks GREATEST_DELAY link.most)
 
--- the second link leads from where the first does to where it does, with a range that lies within that of the first
+-- the second link leads from where the first does to where it does, for stamps if the first is, with a range that lies within that of the first
 pub record IsNarrowerLink (link narrow : DraftLink) : Type 0 where
   pub sender : narrow.sender ≡ link.sender
   pub to : narrow.to ≡ link.to
+  pub stamps : narrow.stamps ≡ link.stamps
   pub range : IsWithinRange (written_range narrow) (written_range link)
 
 -- A latency that a message of a draft never exceeds at a group is not exceeded with narrower links and no greater D.

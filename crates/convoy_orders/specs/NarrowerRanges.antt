@@ -1,8 +1,7 @@
 -- One scenario with two choices of D and of links, of which one gives no wider ranges than the other.
 use Rattle.std.specs.Prelude.{◌≡◌, ℕ, ◌≤◌, List}
 use Rattle.convoy_scenario.specs.declared.sender.Sender.{Sender}
-use Rattle.convoy_scenario.specs.declared.sender.Sender.TheVariants.{Group}
-use Rattle.convoy_scenario.specs.Scenario.{Link, Scenario, range_between, takes_time}
+use Rattle.convoy_scenario.specs.Scenario.{HaveSameHomes, Link, Scenario, range_between}
 use Rattle.convoy_packets.specs.Assignment.{Schedule, IsAssignment}
 use Rattle.convoy_sim.specs.Delivery.{latency_at}
 use Rattle.convoy_orders.specs.GreatestAt.{IsUpperAt}
@@ -17,7 +16,7 @@ IsWithinRange range wide = (wide.0 ≤ range.0) × (range.1 ≤ wide.1)
 
 -- with that D and those links, the same groups have links to themselves as in the scenario, and no delay is possible between any two places that is not so there
 pub record AreNarrowerRanges (delay : ℕ) (links : List Link) (scenario : Scenario) : Type 0 where
-  pub home : (g : ℕ) → takes_time (with_links delay links scenario) (Group g) g ≡ takes_time scenario (Group g) g
+  pub homes : HaveSameHomes scenario (with_links delay links scenario)
   pub ranges : (sender : Sender) (to : ℕ) → IsWithinRange (range_between (with_links delay links scenario) sender to) (range_between scenario sender to)
 
 -- Each run with narrower ranges is one with the wider ranges, in which every message takes as long to every group.

@@ -2,7 +2,7 @@
 use Rattle.std.specs.Prelude.{◌≡◌, ℕ, length}
 use Rattle.convoy_scenario.specs.declared.sender.Sender.{Sender}
 use Rattle.convoy_scenario.specs.declared.sender.Sender.TheVariants.{Client, Group}
-use Rattle.convoy_scenario.specs.Scenario.{Message, Scenario, message_at, is_addressed, range_between, takes_time}
+use Rattle.convoy_scenario.specs.Scenario.{Message, Scenario, message_at, is_addressed, range_between, stamp_takes_time, takes_time}
 
 -- the sender, where each group goes by another number
 abbrev pub renumbered_sender : (ℕ → ℕ) → Sender → Sender
@@ -16,6 +16,11 @@ pub record IsRenumberedMessage (renumber : ℕ → ℕ) (message other : Message
   pub at : other.at ≡ message.at
   pub wait : other.longest_wait ≡ message.longest_wait
 
+-- the same groups have links to themselves, for messages alone or for stamps, too, where each group goes by another number
+pub record HaveRenumberedHomes (renumber : ℕ → ℕ) (scenario other : Scenario) : Type 0 where
+  pub messages : (g : ℕ) → takes_time other (Group (renumber g)) (renumber g) ≡ takes_time scenario (Group g) g
+  pub stamps : (g : ℕ) → stamp_takes_time other (renumber g) (renumber g) ≡ stamp_takes_time scenario g g
+
 -- each group of the scenario goes by its new number in the other one, and by `back` of that in the scenario; time, messages, which groups have links to themselves, the range between any two places, and the target are the same
 pub record IsRenumbered (renumber back : ℕ → ℕ) (scenario other : Scenario) : Type 0 where
   pub back_again : (g : ℕ) → back (renumber g) ≡ g
@@ -23,7 +28,7 @@ pub record IsRenumbered (renumber back : ℕ → ℕ) (scenario other : Scenario
   pub time : other.time ≡ scenario.time
   pub message_count : length other.multicasts ≡ length scenario.multicasts
   pub messages : (m : ℕ) → IsRenumberedMessage renumber (message_at scenario m) (message_at other m)
-  pub home : (g : ℕ) → takes_time other (Group (renumber g)) (renumber g) ≡ takes_time scenario (Group g) g
+  pub homes : HaveRenumberedHomes renumber scenario other
   pub ranges : (sender : Sender) (to : ℕ) → range_between other (renumbered_sender renumber sender) (renumber to) ≡ range_between scenario sender to
   pub target_message : other.target_message ≡ scenario.target_message
   pub target_group : other.target_group ≡ renumber scenario.target_group

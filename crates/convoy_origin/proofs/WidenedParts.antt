@@ -5,7 +5,7 @@ use Rattle.std.proofs.lemmas.Bool.{cases_lt, cases_eq, cond-true, cond-false, eq
 use Rattle.std.proofs.lemmas.List.{get_or_past}
 use Rattle.convoy_scenario.specs.declared.sender.Sender.{Sender}
 use Rattle.convoy_scenario.specs.declared.sender.Sender.TheVariants.{Group}
-use Rattle.convoy_scenario.specs.Scenario.{Message, Scenario, no_message, message_at, is_addressed, takes_time, may_wait, range_between}
+use Rattle.convoy_scenario.specs.Scenario.{Message, Scenario, TakeTimeAlike, no_message, message_at, is_addressed, takes_time, may_wait, range_between}
 use Rattle.convoy_packets.specs.declared.packet.Packet.{Packet}
 use Rattle.convoy_packets.specs.declared.packet.Packet.TheVariants.{Wait, Multicast, Propose}
 use Rattle.convoy_packets.specs.Packets.{is_wait}
@@ -26,7 +26,7 @@ sender_stays wait t m x = elim (cases_eq m t) [
 pub record IsWidened (plan wide : Scenario) : Type 0 where
   pub alike : AreAlike plan wide
   pub senders : (m : ℕ) → (message_at wide m).sender ≡ (message_at plan m).sender
-  pub takes : (sender : Sender) (to : ℕ) → takes_time wide sender to ≡ takes_time plan sender to
+  pub takes : TakeTimeAlike plan wide
   pub ranges : (p : Packet) → is_wait p ≡ false → range_of wide p ≡ range_of plan p
   pub target_at : plan.target_message < length plan.multicasts
       → (message_at wide plan.target_message).at ≡ (message_at plan plan.target_message).at + target_wait plan
@@ -70,9 +70,9 @@ module _ (plan : Scenario) where
   unfolding widened
   between_stays sender g = refl
 
-  takes_stay : (sender : Sender) (g : ℕ) → takes_time (widened plan) sender g ≡ takes_time plan sender g
+  takes_stay : TakeTimeAlike plan (widened plan)
   unfolding widened
-  takes_stay sender g = refl
+  takes_stay = record { messages = λ sender g. refl; stamps = λ from to. refl }
 
   ranges_stay : (p : Packet) → is_wait p ≡ false → range_of (widened plan) p ≡ range_of plan p
   ranges_stay (Wait m) travels = absurd (let no : true ≡ false = travels in cc)
@@ -110,8 +110,8 @@ module _ (plan wide : Scenario) (is : IsWidened plan wide) where
   pub same_sent : (p : Packet) → is_wait p ≡ false → is_sent wide p ≡ is_sent plan p
   same_sent (Wait m) travels = absurd (let no : true ≡ false = travels in cc)
   same_sent (Multicast m g) travels =
-      ap₂ (λ a b. a && b) (same_addressed m g) (is.takes (message_at wide m).sender g ∙ ap (λ (s : Sender). takes_time plan s g) (is.senders m))
-  same_sent (Propose m h g) travels = ap₂ (λ a b. a && b && not (h == g)) (same_addressed m h) (same_addressed m g)
+      ap₂ (λ a b. a && b) (same_addressed m g) (is.takes.messages (message_at wide m).sender g ∙ ap (λ (s : Sender). takes_time plan s g) (is.senders m))
+  same_sent (Propose m h g) travels = ap₂ (λ a b. a && b) (ap₂ (λ a b. a && b) (same_addressed m h) (same_addressed m g)) (is.takes.stamps h g)
 
   -- a message that waits in the widened scenario is one of its messages, and not the target
   pub waits_there : (m : ℕ) → may_wait (message_at wide m) ≡ true → (m ≢ plan.target_message) × (m < length plan.multicasts)

@@ -1,5 +1,5 @@
 -- Links with the ends that a table names lead just where the links lead that the table writes.
-use Rattle.std.proofs.Common.{◌≡◌, ℕ, ℤ, Bool, true, false, not, ◌&&◌, ◌||◌, List, [], ◌∷◌, ◌++◌, filter, Option, Some, None, inl, inr, refl, sym, ap, ap₂, ◌∙◌}
+use Rattle.std.proofs.Common.{◌≡◌, ℕ, Bool, true, false, not, ◌&&◌, ◌||◌, List, [], ◌∷◌, ◌++◌, filter, Option, Some, None, inl, inr, refl, sym, ap, ap₂, ◌∙◌}
 use Rattle.std.specs.List.{list_all, list_any}
 use Rattle.std.specs.Str.{bytes_eq}
 use Rattle.std.proofs.lemmas.Bool.{and_from, and_parts, both_ways, cases_Bool, false≢true, or_right}
@@ -8,7 +8,6 @@ use Rattle.convoy_draft.specs.Checks.{is_among, is_named_alike, leads_elsewhere}
 use Rattle.convoy_draft.specs.Draft.{DraftLink}
 use Rattle.convoy_scenario.proofs.NumberedAgain.{itself, same_bytes}
 use Rattle.convoy_toml.specs.Links.{Bundle, apart, links_between, links_from, links_of_bundle}
-use Rattle.convoy_toml.specs.Shape.{LinkEnds}
 use Rattle.convoy_toml.specs.Ways.{Way, is_one_of, leads_along}
 use Rattle.convoy_outside.specs.Sums.{leads}
 
@@ -149,9 +148,9 @@ all_alike true back some is e = refl
 all_alike false back some is e = absurd (both_ways some e is)
 
 -- the ends of a table between groups
-module _ (names ts : List (List ℕ)) (both : Bool) (least most : ℤ) (sender : Option (List ℕ)) (to : List ℕ) where
+module _ (bundle : Bundle) (names ts : List (List ℕ)) (both : Bool) (sender : Option (List ℕ)) (to : List ℕ) where
   abbrev between : Bundle
-  between = record { ends = record { senders = Some names; to = ts; both = both }; least = least; most = most }
+  between = record bundle { ends = record { senders = Some names; to = ts; both = both } }
 
   between_led : (back : List DraftLink) (named alike : Bool) → list_any (leads_along (way between sender to)) back ≡ named → list_any leads_elsewhere back ≡ not alike → (are_alike names ts ≡ true → alike ≡ true)
       → list_any (leads_along (way between sender to)) (apart (links_between between names ts ++ back))
@@ -164,25 +163,25 @@ module _ (names ts : List (List ℕ)) (both : Bool) (least most : ℤ) (sender :
       (some_differ (are_alike names ts) alike _ some too)
       (λ none goes. or_right (not (is_named_alike sender (Some to))) (are_alike names ts) (all_alike (are_alike names ts) alike _ some none))
 
-led_by : (senders : Option (List (List ℕ))) (ts : List (List ℕ)) (both : Bool) (least most : ℤ) (sender : Option (List ℕ)) (to : List ℕ)
-    → list_any (leads_along (record { sender = sender; to = to })) (links_of_bundle (record { ends = record { senders = senders; to = ts; both = both }; least = least; most = most }))
+led_by : (bundle : Bundle) (senders : Option (List (List ℕ))) (ts : List (List ℕ)) (both : Bool) (sender : Option (List ℕ)) (to : List ℕ)
+    → list_any (leads_along (record { sender = sender; to = to })) (links_of_bundle (record bundle { ends = record { senders = senders; to = ts; both = both } }))
     ≡ leads (record { senders = senders; to = ts; both = both }) sender to
-led_by None ts both least most None to =
-    let bundle : Bundle = record { ends = record { senders = None; to = ts; both = both }; least = least; most = most } in
-    decided bundle None to (links_from bundle None ts) (is_among to ts) false (along_from bundle None to None ts) (λ e. refl) (λ none goes. refl)
-led_by None ts both least most (Some name) to =
-    let bundle : Bundle = record { ends = record { senders = None; to = ts; both = both }; least = least; most = most } in
-    decided bundle (Some name) to (links_from bundle None ts) false false (along_from bundle (Some name) to None ts) (λ e. refl) (λ none goes. absurd (false≢true goes))
-led_by (Some names) ts true least most None to =
-    between_led names ts true least most None to (links_between (between names ts true least most None to) ts names) false (are_alike ts names)
-    (along_between (between names ts true least most None to) None to ts names) (elsewhere_between (between names ts true least most None to) ts names) (alike_back names ts)
-led_by (Some names) ts true least most (Some name) to =
-    between_led names ts true least most (Some name) to (links_between (between names ts true least most (Some name) to) ts names) (is_among name ts && is_among to names) (are_alike ts names)
-    (along_between (between names ts true least most (Some name) to) (Some name) to ts names) (elsewhere_between (between names ts true least most (Some name) to) ts names) (alike_back names ts)
-led_by (Some names) ts false least most None to = between_led names ts false least most None to [] false true refl refl (λ e. refl)
-led_by (Some names) ts false least most (Some name) to = between_led names ts false least most (Some name) to [] false true refl refl (λ e. refl)
+led_by bundle None ts both None to =
+    let clients : Bundle = record bundle { ends = record { senders = None; to = ts; both = both } } in
+    decided clients None to (links_from clients None ts) (is_among to ts) false (along_from clients None to None ts) (λ e. refl) (λ none goes. refl)
+led_by bundle None ts both (Some name) to =
+    let clients : Bundle = record bundle { ends = record { senders = None; to = ts; both = both } } in
+    decided clients (Some name) to (links_from clients None ts) false false (along_from clients (Some name) to None ts) (λ e. refl) (λ none goes. absurd (false≢true goes))
+led_by bundle (Some names) ts true None to =
+    between_led bundle names ts true None to (links_between (between bundle names ts true None to) ts names) false (are_alike ts names)
+    (along_between (between bundle names ts true None to) None to ts names) (elsewhere_between (between bundle names ts true None to) ts names) (alike_back names ts)
+led_by bundle (Some names) ts true (Some name) to =
+    between_led bundle names ts true (Some name) to (links_between (between bundle names ts true (Some name) to) ts names) (is_among name ts && is_among to names) (are_alike ts names)
+    (along_between (between bundle names ts true (Some name) to) (Some name) to ts names) (elsewhere_between (between bundle names ts true (Some name) to) ts names) (alike_back names ts)
+led_by bundle (Some names) ts false None to = between_led bundle names ts false None to [] false true refl refl (λ e. refl)
+led_by bundle (Some names) ts false (Some name) to = between_led bundle names ts false (Some name) to [] false true refl refl (λ e. refl)
 
 -- the share of a packet is that of the table that writes its link
-led : (ends : LinkEnds) (least most : ℤ) (sender : Option (List ℕ)) (to : List ℕ)
-    → leads ends sender to ≡ list_any (leads_along (record { sender = sender; to = to })) (links_of_bundle (record { ends = ends; least = least; most = most }))
-led ends least most sender to = sym (led_by ends.senders ends.to ends.both least most sender to)
+led : (bundle : Bundle) (sender : Option (List ℕ)) (to : List ℕ)
+    → leads bundle.ends sender to ≡ list_any (leads_along (record { sender = sender; to = to })) (links_of_bundle bundle)
+led bundle sender to = sym (led_by bundle bundle.ends.senders bundle.ends.to bundle.ends.both sender to)

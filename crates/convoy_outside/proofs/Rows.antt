@@ -47,7 +47,7 @@ some_alone = refl
 -- a's own message to a and b, where a has a link to itself with a share of its own: two packets of the message, and two stamps
 abbrev own_scenario : Scenario
 own_scenario = record scenario {
-  links = record { sender = Group 0; to = 0; least = 2; most = 3 } ∷ [];
+  links = record { sender = Group 0; to = 0; least = 2; most = 3; stamps = false } ∷ [];
   multicasts = record message { sender = Group 0; longest_wait = 0 } ∷ [];
 }
 
@@ -64,6 +64,11 @@ of_own_message = (refl, refl)
 own_message_counts : outside_told (to_each_other 3 ∷ to_itself 5 ∷ []) own_scenario ≡ Some 14
 unfolding outside_of packets_of
 own_message_counts = refl
+
+-- where the link is for stamps, too, a's stamp to itself counts as well
+own_stamp_counts : outside_told (to_each_other 3 ∷ to_itself 5 ∷ []) (record own_scenario { links = record { sender = Group 0; to = 0; least = 2; most = 3; stamps = true } ∷ [] }) ≡ Some 19
+unfolding outside_of packets_of
+own_stamp_counts = refl
 
 -- without the link it takes no time, and leaves no range
 own_message_at_once : outside_told (to_each_other 3 ∷ to_itself 5 ∷ []) (record own_scenario { links = [] }) ≡ Some 9

@@ -6,7 +6,7 @@ use Rattle.std.proofs.lemmas.List.Sums.{sum_by-append, sum_by-cons}
 use Rattle.convoy_scenario.specs.declared.sender.Sender.{Sender}
 use Rattle.convoy_scenario.specs.declared.sender.Sender.TheVariants.{Client, Group}
 use Rattle.convoy_scenario.specs.Naming.{sender_name}
-use Rattle.convoy_scenario.specs.Scenario.{Message, Scenario, may_wait, message_at, takes_time}
+use Rattle.convoy_scenario.specs.Scenario.{Message, Scenario, TakeTimeAlike, may_wait, message_at}
 use Rattle.convoy_scenario.proofs.TakingTime.{same_takes}
 use Rattle.convoy_packets.specs.declared.packet.Packet.{Packet}
 use Rattle.convoy_packets.specs.declared.packet.Packet.TheVariants.{Wait, Multicast, Propose}
@@ -24,7 +24,7 @@ use Rattle.convoy_outside.specs.OutsideLaws.{LateFinerRunsAreFew, LateRunsAreFew
 abbrev travelling : Scenario → ℕ → Sender → List ℕ → List Packet
 travelling plan m sender destinations =
     multicast_packets plan m (record { name = []; sender = sender; destinations = destinations; at = 0; longest_wait = 0 })
-    ++ flat_map (propose_packets m (record { name = []; sender = sender; destinations = destinations; at = 0; longest_wait = 0 })) destinations
+    ++ flat_map (propose_packets plan m (record { name = []; sender = sender; destinations = destinations; at = 0; longest_wait = 0 })) destinations
 
 module _ (f : Packet → ℕ) (light : (m : ℕ) → f (Wait m) ≡ 0) where
   wait_sum : (m : ℕ) (message : Message) → sum_by f (wait_packets m message) ≡ 0
@@ -37,7 +37,7 @@ module _ (f : Packet → ℕ) (light : (m : ℕ) → f (Wait m) ≡ 0) where
   message_sum plan m message =
       omega (arith, sum_by-append f (wait_packets m message) (travelling plan m message.sender message.destinations), wait_sum m message)
 
-  module _ (k : ℕ) (plan fine : Scenario) (takes : (sender : Sender) (to : ℕ) → takes_time fine sender to ≡ takes_time plan sender to) where
+  module _ (k : ℕ) (plan fine : Scenario) (takes : TakeTimeAlike plan fine) where
     sums_in : (n : ℕ) (xs ys : List Message) → AllZip (IsFinerMessage k) xs ys
         → sum_by f (flat_map (λ p. message_packets fine p.0 p.1) (enumerate_from n ys)) ≡ sum_by f (flat_map (λ p. message_packets plan p.0 p.1) (enumerate_from n xs))
     sums_in n [] [] h = refl
@@ -71,7 +71,7 @@ module _ (times : ℕ) (shares : List LinkShare) (scenario finer : Scenario) (is
   same_sum =
       ap (λ n. min n WHOLE_SHARE)
       (pointwise (share_of shares finer) (share_of shares scenario) same_share (packets_of finer)
-      ∙ sums_in (share_of shares scenario) (λ m. refl) times scenario finer (same_takes scenario finer is.home) 0 scenario.multicasts finer.multicasts is.messages)
+      ∙ sums_in (share_of shares scenario) (λ m. refl) times scenario finer (same_takes scenario finer is.homes) 0 scenario.multicasts finer.multicasts is.messages)
 
 pub finer_are_few : LateRunsAreFew → ScenariosAreRoundable → WholeTicksAreEnough → LateFinerRunsAreFew
 finer_are_few few roundable enough times shares scenario finer upper runs well real is groups up are =

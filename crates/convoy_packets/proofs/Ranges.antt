@@ -1,5 +1,5 @@
 -- Ranges, and the delays of schedules by packet.
-use Rattle.std.proofs.Common.{◌≡◌, ℕ, zero, suc, ◌<◌, ◌≤◌, ◌==◌, ◌&&◌, Bool, true, false, cond, not, List, [], ◌∷◌, length, get_or, slice_set, IfSome, Option, Some, None, arith, refl, sym, ap, ◌∙◌, IsTrue}
+use Rattle.std.proofs.Common.{◌≡◌, ℕ, zero, suc, ◌<◌, ◌≤◌, ◌==◌, ◌&&◌, ◌||◌, Bool, true, false, cond, not, List, [], ◌∷◌, length, get_or, slice_set, IfSome, Option, Some, None, arith, refl, sym, ap, ◌∙◌, IsTrue}
 use Rattle.std.specs.List.{All, AllByRecursion, find, list_any, slice_get}
 use Rattle.std.specs.Option.{is_some, option_map_or}
 use Rattle.std.proofs.lemmas.Bool.{true≢false, not-true}
@@ -8,7 +8,7 @@ use Rattle.std.proofs.lemmas.List.Elements.{All-head, All-tail, All-map, recursi
 use Rattle.std.proofs.lemmas.Option.{same_Some, slice_get-get_or, slice_get_within}
 use Rattle.convoy_draft.specs.declared.limits.TheConstants.{GREATEST_WHOLE_DELAY, LONGEST_WAIT}
 use Rattle.convoy_scenario.specs.declared.sender.Sender.{Sender}
-use Rattle.convoy_scenario.specs.Scenario.{Link, Message, Scenario, is_same_sender, is_timed, may_wait, message_at, no_message, range_between}
+use Rattle.convoy_scenario.specs.Scenario.{Link, Message, Scenario, has_own_stamps, is_same_sender, is_timed, may_wait, message_at, no_message, range_between}
 use Rattle.convoy_draft.specs.declared.time.Time.{Time}
 use Rattle.convoy_draft.specs.declared.time.Time.TheVariants.{Ticks, Real}
 use Rattle.convoy_scenario.specs.WellFormed.{IsLink, IsScenario}
@@ -19,7 +19,7 @@ use Rattle.convoy_packets.specs.Packets.{is_wait, packets_of, place_of}
 use Rattle.convoy_packets.specs.Assignment.{AreWithin, IsAssignment, IsWithin, Schedule, delay_of, sender_of, range_of, ranges_of}
 use Rattle.convoy_packets.specs.ScheduleLaws.{is_sent}
 use Rattle.convoy_packets.specs.Table.{AreWholeDelays, IsRange, least_of, least_delays, greatest_delays}
-use Rattle.convoy_packets.proofs.Listed.{all_travel, length-packets_of-unwaiting}
+use Rattle.convoy_packets.proofs.Listed.{all_travel, length-packets_of-unwaiting, or_none}
 use Rattle.convoy_packets.proofs.Places.{stands_where_found}
 use Rattle.convoy_packets.proofs.Sent.{found_if_sent}
 use Rattle.convoy_packets.proofs.Orders.{fixed_is_order}
@@ -92,19 +92,22 @@ range_fits plan packet is travels =
     let most = delay_fits plan is in
     omega (arith, range.high, most)
 
--- where time goes in whole ticks and no message waits
-untimed : (plan : Scenario) → is_timed plan ≡ false → (plan.time ≡ Ticks) × (list_any may_wait plan.multicasts ≡ false)
+-- where time goes in whole ticks, no message waits, and no own stamps take time
+untimed : (plan : Scenario) → is_timed plan ≡ false → (plan.time ≡ Ticks) × (list_any may_wait plan.multicasts ≡ false) × (has_own_stamps plan ≡ false)
 untimed plan e = by_time plan.time refl where
-  by_time : (time : Time) → plan.time ≡ time → (plan.time ≡ Ticks) × (list_any may_wait plan.multicasts ≡ false)
+  by_time : (time : Time) → plan.time ≡ time → (plan.time ≡ Ticks) × (list_any may_wait plan.multicasts ≡ false) × (has_own_stamps plan ≡ false)
   by_time Real is = let f : is_timed plan ≡ true = rw is refl in absurd (true≢false (sym f ∙ e))
-  by_time Ticks is = (is, rw is at e)
+  by_time Ticks is =
+      let none : (list_any may_wait plan.multicasts || has_own_stamps plan) ≡ false = rw is at e in
+      let each = or_none (list_any may_wait plan.multicasts) (has_own_stamps plan) none in
+      (is, each.0, each.1)
 
 pub ranges_whole : (plan : Scenario) → IsScenario plan → is_timed plan ≡ false → AreWholeDelays (ranges_of plan)
 unfolding ranges_of
 ranges_whole plan is e =
     let none = untimed plan e in
     let travel = all_travel plan none.1 in
-    let few = length-packets_of-unwaiting plan is none.1 in
+    let few = length-packets_of-unwaiting plan is none.1 none.2 in
     let long = length-ranges_of plan in
     record {
       few = omega arith;

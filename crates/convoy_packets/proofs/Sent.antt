@@ -5,12 +5,16 @@ use Rattle.std.specs.Option.{is_some}
 use Rattle.std.proofs.lemmas.Bool.{cases_eq, ne_eqb, eq-eqb, and_right, lt-ltb, true≢false, false≢true}
 use Rattle.std.proofs.lemmas.Bool.Decides.{nat_tests}
 use Rattle.std.proofs.lemmas.List.Folds.{list_any-append, list_any_none}
-use Rattle.convoy_scenario.specs.Scenario.{Message, Scenario, message_at, may_wait, no_message, takes_time, is_addressed}
+use Rattle.convoy_scenario.specs.Scenario.{Message, Scenario, message_at, may_wait, no_message, stamp_takes_time, takes_time, is_addressed}
 use Rattle.convoy_packets.specs.declared.packet.Packet.{Packet}
 use Rattle.convoy_packets.specs.declared.packet.Packet.TheVariants.{Wait, Multicast, Propose}
 use Rattle.convoy_packets.specs.Packets.{wait_packets, multicast_packets, propose_packets, message_packets, packets_of, is_packet, is_wait, place_of}
 use Rattle.convoy_packets.specs.ScheduleLaws.{is_sent}
 use Rattle.convoy_packets.proofs.Listed.{are_multicasts, are_stamps, are_sent_off, are_waits, is_multicast, message_of}
+
+-- what one group proposes takes time on its way to another
+pub other_stamp_takes : (plan : Scenario) (h g : ℕ) → (h == g) ≡ false → stamp_takes_time plan h g ≡ true
+other_stamp_takes plan h g away = rw away refl
 
 list_any-flat_map : {X A : Type 0} (p : A → Bool) (f : X → List A) (xs : List X) → list_any p (flat_map f xs) ≡ list_any (λ x. list_any p (f x)) xs
 list_any-flat_map p f [] = refl
@@ -70,7 +74,7 @@ any_numbered F S m n (suc k) (x ∷ xs) d h none e =
 abbrev sends : Scenario → Message → Packet → Bool
 sends plan message (Wait m) = may_wait message
 sends plan message (Multicast m g) = is_addressed message g && takes_time plan message.sender g
-sends plan message (Propose m h g) = is_addressed message h && is_addressed message g && not (h == g)
+sends plan message (Propose m h g) = is_addressed message h && is_addressed message g && stamp_takes_time plan h g
 
 unaddressed : (plan : Scenario) (p : Packet) → sends plan no_message p ≡ false
 unaddressed plan (Wait m) = refl
@@ -110,7 +114,7 @@ no_packet q (Propose n i k) e f = absurd (false≢true f)
 
 module _ (plan : Scenario) (n : ℕ) (message : Message) where
   travelling : List Packet
-  travelling = multicast_packets plan n message ++ flat_map (propose_packets n message) message.destinations
+  travelling = multicast_packets plan n message ++ flat_map (propose_packets plan n message) message.destinations
 
   -- what travels is not found among the waits
   past_waits : (q : Packet) → is_wait q ≡ false → list_any (is_packet q) (message_packets plan n message) ≡ list_any (is_packet q) travelling
@@ -139,21 +143,22 @@ module _ (plan : Scenario) (n : ℕ) (message : Message) where
       let gs = message.destinations in
       let q = Multicast m g in
       past_waits q refl
-      ∙ list_any-append (is_packet q) (multicast_packets plan n message) (flat_map (propose_packets n message) gs)
+      ∙ list_any-append (is_packet q) (multicast_packets plan n message) (flat_map (propose_packets plan n message) gs)
       ∙ ap (λ b. list_any (is_packet q) (multicast_packets plan n message) || b)
-      (list_any_none (is_packet q) (flat_map (propose_packets n message) gs)
-      (λ k d l. not_stamp m g (get_or (flat_map (propose_packets n message) gs) k d) (are_stamps plan n message k d l)))
+      (list_any_none (is_packet q) (flat_map (propose_packets plan n message) gs)
+      (λ k d l. not_stamp m g (get_or (flat_map (propose_packets plan n message) gs) k d) (are_stamps plan n message k d l)))
       ∙ or_false (list_any (is_packet q) (multicast_packets plan n message))
       ∙ any_mapped (is_packet q) (λ k. Multicast n k) sent gs
       ∙ any_one (λ k. sent k && ((m == n) && (g == k))) (sent g && (m == n)) g gs
       (λ k. and_assoc (sent k) (m == n) (g == k) ∙ to_one (λ i. sent i && (m == n)) g k)
       ∙ turned (sent g) (m == n) (is_addressed message g)
 
-  stamps_found : (m h g k : ℕ) → list_any (is_packet (Propose m h g)) (propose_packets n message k) ≡ ((not (k == g) && ((m == n) && (h == k))) && is_addressed message g)
+  stamps_found : (m h g k : ℕ) → list_any (is_packet (Propose m h g)) (propose_packets plan n message k) ≡ ((stamp_takes_time plan k g && ((m == n) && (h == k))) && is_addressed message g)
   stamps_found m h g k =
-      any_mapped (is_packet (Propose m h g)) (λ i. Propose n k i) (λ i. not (k == i)) message.destinations
-      ∙ any_one (λ i. not (k == i) && ((m == n) && (h == k) && (g == i))) (not (k == g) && ((m == n) && (h == k))) g message.destinations
-      (λ i. and_assoc (not (k == i)) ((m == n) && (h == k)) (g == i) ∙ to_one (λ j. not (k == j) && ((m == n) && (h == k))) g i)
+      let sent = stamp_takes_time plan k in
+      any_mapped (is_packet (Propose m h g)) (λ i. Propose n k i) sent message.destinations
+      ∙ any_one (λ i. sent i && ((m == n) && (h == k) && (g == i))) (sent g && ((m == n) && (h == k))) g message.destinations
+      (λ i. and_assoc (sent i) ((m == n) && (h == k)) (g == i) ∙ to_one (λ j. sent j && ((m == n) && (h == k))) g i)
 
   propose_found : (m h g : ℕ) → list_any (is_packet (Propose m h g)) (message_packets plan n message) ≡ ((m == n) && sends plan message (Propose m h g))
   unfolding travelling
@@ -161,15 +166,15 @@ module _ (plan : Scenario) (n : ℕ) (message : Message) where
       let gs = message.destinations in
       let q = Propose m h g in
       past_waits q refl
-      ∙ list_any-append (is_packet q) (multicast_packets plan n message) (flat_map (propose_packets n message) gs)
-      ∙ ap (λ b. b || list_any (is_packet q) (flat_map (propose_packets n message) gs))
+      ∙ list_any-append (is_packet q) (multicast_packets plan n message) (flat_map (propose_packets plan n message) gs)
+      ∙ ap (λ b. b || list_any (is_packet q) (flat_map (propose_packets plan n message) gs))
       (list_any_none (is_packet q) (multicast_packets plan n message) (λ k d l. not_multicast m h g (get_or (multicast_packets plan n message) k d) (are_multicasts plan n message k d l)))
-      ∙ list_any-flat_map (is_packet q) (propose_packets n message) gs
-      ∙ any_one (λ k. list_any (is_packet q) (propose_packets n message k)) (((m == n) && is_addressed message g) && not (h == g)) h gs
+      ∙ list_any-flat_map (is_packet q) (propose_packets plan n message) gs
+      ∙ any_one (λ k. list_any (is_packet q) (propose_packets plan n message k)) (((m == n) && is_addressed message g) && stamp_takes_time plan h g) h gs
       (λ k. stamps_found m h g k
-      ∙ grouped (not (k == g)) (m == n) (h == k) (is_addressed message g)
-      ∙ to_one (λ j. ((m == n) && is_addressed message g) && not (j == g)) h k)
-      ∙ regrouped (m == n) (is_addressed message g) (not (h == g)) (is_addressed message h)
+      ∙ grouped (stamp_takes_time plan k g) (m == n) (h == k) (is_addressed message g)
+      ∙ to_one (λ j. ((m == n) && is_addressed message g) && stamp_takes_time plan j g) h k)
+      ∙ regrouped (m == n) (is_addressed message g) (stamp_takes_time plan h g) (is_addressed message h)
 
   found : (p : Packet) → list_any (is_packet p) (message_packets plan n message) ≡ ((message_of p == n) && sends plan message p)
   found (Wait m) = wait_found m

@@ -1,7 +1,7 @@
 -- The packets of a scenario, in the order in which schedules list their delays.
-use Rattle.std.specs.Prelude.{ℕ, ◌==◌, Bool, true, false, ◌&&◌, not, if◌then◌else◌, List, [], ◌∷◌, ◌++◌, map, Option, position}
+use Rattle.std.specs.Prelude.{ℕ, ◌==◌, Bool, true, false, ◌&&◌, if◌then◌else◌, List, [], ◌∷◌, ◌++◌, map, Option, position}
 use Rattle.std.specs.List.{filter, flat_map, enumerate_from}
-use Rattle.convoy_scenario.specs.Scenario.{Message, Scenario, takes_time, may_wait}
+use Rattle.convoy_scenario.specs.Scenario.{Message, Scenario, stamp_takes_time, takes_time, may_wait}
 use Rattle.convoy_packets.specs.declared.packet.Packet.{Packet}
 use Rattle.convoy_packets.specs.declared.packet.Packet.TheVariants.{Wait, Multicast, Propose}
 
@@ -13,14 +13,14 @@ wait_packets m message = if may_wait message then Wait m ∷ [] else []
 abbrev pub multicast_packets : Scenario → ℕ → Message → List Packet
 multicast_packets scenario m message = map (λ g. Multicast m g) (filter (takes_time scenario message.sender) message.destinations)
 
--- the local stamp of the destination h of message m to each other destination
-abbrev pub propose_packets : ℕ → Message → ℕ → List Packet
-propose_packets m message h = map (λ g. Propose m h g) (filter (λ g. not (h == g)) message.destinations)
+-- the local stamp of the destination h of message m to each other destination, and to itself by a link that is for stamps
+abbrev pub propose_packets : Scenario → ℕ → Message → ℕ → List Packet
+propose_packets scenario m message h = map (λ g. Propose m h g) (filter (stamp_takes_time scenario h) message.destinations)
 
 -- the packets of message m: its wait, the message itself, and then the stamps by (from, to)
 abbrev pub message_packets : Scenario → ℕ → Message → List Packet
 message_packets scenario m message =
-    wait_packets m message ++ (multicast_packets scenario m message ++ flat_map (propose_packets m message) message.destinations)
+    wait_packets m message ++ (multicast_packets scenario m message ++ flat_map (propose_packets scenario m message) message.destinations)
 
 -- all packets of a scenario, message by message
 unfoldable pub packets_of : Scenario → List Packet

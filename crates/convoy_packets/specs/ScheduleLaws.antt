@@ -1,9 +1,9 @@
 -- What always holds of packet lists, ranges and schedules.
-use Rattle.std.specs.Prelude.{◌≡◌, ◌↔◌, ℕ, ℤ, pos, ◌*◌, ◌≤◌, ◌==◌, Bool, ◌&&◌, not, List, [], length, map, Some, Ok, slice_index, IsFalse, IsTrue}
+use Rattle.std.specs.Prelude.{◌≡◌, ◌↔◌, ℕ, ℤ, pos, ◌*◌, ◌≤◌, Bool, ◌&&◌, not, List, [], length, map, Some, Ok, slice_index, IsFalse, IsTrue}
 use Rattle.std.specs.List.{slice_get}
 use Rattle.std.specs.Option.{is_some}
 use Rattle.convoy_draft.specs.declared.time.Time.TheVariants.{Real}
-use Rattle.convoy_scenario.specs.Scenario.{Scenario, message_at, may_wait, takes_time, is_addressed}
+use Rattle.convoy_scenario.specs.Scenario.{Scenario, message_at, may_wait, stamp_takes_time, takes_time, is_addressed}
 use Rattle.convoy_scenario.specs.WellFormed.{IsScenario}
 use Rattle.convoy_packets.specs.declared.packet.TheConstants.{MOST_PACKETS}
 use Rattle.convoy_packets.specs.declared.table_places.TheConstants.{PLACES}
@@ -16,11 +16,11 @@ use Rattle.convoy_packets.specs.OrderLists.{AreSmall, is_no_order, order_of, ran
 use Rattle.convoy_packets.specs.Given.{schedule_of}
 use Rattle.convoy_packets.specs.Table.{least_of}
 
--- the scenario has the packet: the wait of a message that may wait, a message to a destination where that takes time, or the stamp of a destination to another one
+-- the scenario has the packet: the wait of a message that may wait, a message to a destination where that takes time, or the stamp of a destination to one where that does
 abbrev pub is_sent : Scenario → Packet → Bool
 is_sent scenario (Wait m) = may_wait (message_at scenario m)
 is_sent scenario (Multicast m g) = is_addressed (message_at scenario m) g && takes_time scenario (message_at scenario m).sender g
-is_sent scenario (Propose m h g) = is_addressed (message_at scenario m) h && is_addressed (message_at scenario m) g && not (h == g)
+is_sent scenario (Propose m h g) = is_addressed (message_at scenario m) h && is_addressed (message_at scenario m) g && stamp_takes_time scenario h g
 
 -- the list has the packets that the scenario sends, and no others
 abbrev pub PacketsAreThoseSent : Type 0
@@ -38,7 +38,7 @@ PlacesLeadBack =
     (scenario : Scenario) (i : ℕ) (packet : Packet) → place_of packet (packets_of scenario) ≡ Some i
     → slice_get (packets_of scenario) i ≡ Some packet
 
--- a scenario has at most 1,040 packets
+-- a scenario has at most 1,168 packets
 abbrev pub PacketsAreFew : Type 0
 PacketsAreFew = (scenario : Scenario) → IsScenario scenario → length (packets_of scenario) ≤ MOST_PACKETS
 

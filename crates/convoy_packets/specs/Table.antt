@@ -9,7 +9,7 @@ use Rattle.convoy_packets.specs.Packets.{packets_of}
 use Rattle.convoy_packets.specs.Assignment.{Schedule, in_fixed_order, ranges_of}
 use Rattle.convoy_packets.specs.Slots.{HaveSlots, HoldPlaces}
 
--- whether time is real or some message may wait, the packets in their order, and at the same place the least and the greatest delay of each
+-- whether time is real, some message may wait or some group's own stamps take time, the packets in their order, and at the same place the least and the greatest delay of each
 pub record PacketTable : Type 0 where
   pub timed : Bool
   pub packets : List Packet
@@ -44,7 +44,7 @@ pub record AreWholeDelays (ranges : List (ℕ × ℕ)) : Type 0 where
   pub low : All (λ range. 1 ≤ range.0) ranges
   pub high : All (λ range. range.1 ≤ GREATEST_WHOLE_DELAY) ranges
 
--- what holds of each table: there is a range for each packet, and there are not too many; where time goes in whole ticks and no message waits, they are delays in whole ticks
+-- what holds of each table: there is a range for each packet, and there are not too many; where time goes in whole ticks, no message waits and no group's own stamps take time, they are delays in whole ticks
 pub record IsTable (table : PacketTable) : Type 0 where
   pub one_each : length table.ranges ≡ length table.packets
   pub few : length table.packets ≤ MOST_PACKETS

@@ -57,12 +57,12 @@ fn list_multicasts(
     Ok(())
 }
 
-/// Adds the local stamps for a message, from each of its destinations to each other one.
+/// Adds the local stamps for a message, from each of its destinations to each to which they take time.
 fn list_proposals(packets: &mut Vec<Packet>, scenario: &Scenario, message: usize) -> AllocResult<()>
     requires { message < length scenario.now.multicasts }
     ensures { OnOk result
         (packets.new.items ≡ packets.old.items
-        ++ flat_map (propose_packets message (message_at scenario.now message))
+        ++ flat_map (propose_packets scenario.now message (message_at scenario.now message))
         (message_at scenario.now message).destinations) }
 {
     for &from in scenario.destinations(message) {
@@ -71,7 +71,7 @@ fn list_proposals(packets: &mut Vec<Packet>, scenario: &Scenario, message: usize
     Ok(())
 }
 
-/// Adds the local stamp of one destination for a message, to each other destination.
+/// Adds the local stamp of one destination for a message, to each other destination, and to itself where that takes time.
 fn list_proposals_from(
     packets: &mut Vec<Packet>,
     scenario: &Scenario,
@@ -81,10 +81,10 @@ fn list_proposals_from(
     requires { message < length scenario.now.multicasts }
     ensures { OnOk result
         (packets.new.items ≡ packets.old.items
-        ++ propose_packets message (message_at scenario.now message) from) }
+        ++ propose_packets scenario.now message (message_at scenario.now message) from) }
 {
     for &to in scenario.destinations(message) {
-        if from != to {
+        if scenario.stamp_takes_time(from, to) {
             packets.push(Packet::Propose { message, from, to })?;
         }
     }

@@ -9,7 +9,7 @@ ghost use Rattle.convoy_packets.specs.ScheduleLaws.{RanksGiveOrders, RanksAreFew
 ghost use Rattle.convoy_packets.specs.ScheduleLaws.{FixedOrderIsDecided};
 
 /// The list has just the packets of the scenario: the wait of each message that may wait, each message
-/// to each of its destinations to which it takes time, and the stamp of each destination to each other one.
+/// to each of its destinations to which it takes time, and the stamp of each destination to each to which that does.
 pub fn packets_are_those_sent()
     ensures { PacketsAreThoseSent }
 {}
@@ -24,7 +24,7 @@ pub fn places_lead_back()
     ensures { PlacesLeadBack }
 {}
 
-/// A scenario has 1,040 packets at most, with the waits of its messages.
+/// A scenario has 1,168 packets at most, with the waits of its messages.
 pub fn packets_are_few()
     ensures { PacketsAreFew }
 {}

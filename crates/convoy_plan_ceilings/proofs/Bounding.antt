@@ -62,7 +62,7 @@ module _ (sites_law : RangesAreOfSites) (home_law : GroupsHaveNoLinksToThemselve
         → cond b (Some 0) (least_between leasts (origin_site sites from) (site_known sites g)) ≡ Some l → (delays_between scenario sender g).0 ≡ l
     by_test true here is =
         let none : takes_time scenario sender g ≡ false =
-        subst (λ (s : Sender). takes_time scenario s g ≡ false) (sym (one_sender sender (senders.Group g) here)) (home_law plan placement scenario g made) in
+        subst (λ (s : Sender). takes_time scenario s g ≡ false) (sym (one_sender sender (senders.Group g) here)) (home_law plan placement scenario g made).messages in
         ap (λ (range : ℕ × ℕ). range.0) (cond-false _ _ _ none) ∙ same_Some 0 l is
     by_test false away is =
         let takes : takes_time scenario sender g ≡ true = ap (λ (home : Bool). not home || is_some (link_between scenario.links sender g)) away in

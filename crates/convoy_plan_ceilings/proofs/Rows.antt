@@ -21,7 +21,7 @@ abbrev ends : List ℕ → List ℕ → Bool → LinkEnds
 ends from to both = record { senders = Some (from ∷ []); to = to ∷ []; both = both }
 
 abbrev between : List ℕ → List ℕ → Bool → ℕ → ℕ → WrittenLink
-between from to both least most = record { ends = ends from to both; least = Count (pos least); most = Count (pos most) }
+between from to both least most = record { ends = ends from to both; least = Count (pos least); most = Count (pos most); stamps = false }
 
 -- a client at the site x sends a message to the groups a and b, of which a is at x, and b at x or at y
 abbrev written : WrittenPlan
@@ -32,6 +32,7 @@ written = record {
     delay = Some (Count (pos 10));
     least = None;
     groups = codes "a" ∷ codes "b" ∷ [];
+    agreements = [];
     links = between (codes "x") (codes "x") false 1 2 ∷ between (codes "x") (codes "y") true 5 9 ∷ [];
     messages = record {
       name = codes "m";
@@ -51,8 +52,8 @@ written = record {
 
 abbrev bundles : List Bundle
 bundles =
-    record { ends = ends (codes "x") (codes "x") false; least = pos 1; most = pos 2 }
-    ∷ record { ends = ends (codes "x") (codes "y") true; least = pos 5; most = pos 9 }
+    record { ends = ends (codes "x") (codes "x") false; least = pos 1; most = pos 2; stamps = false }
+    ∷ record { ends = ends (codes "x") (codes "y") true; least = pos 5; most = pos 9; stamps = false }
     ∷ []
 
 abbrev plan : Plan
@@ -72,7 +73,7 @@ scenario made = record {
 }
 
 abbrev link : Sender → ℕ → ℕ → ℕ → Link
-link from to least most = record { sender = from; to = to; least = least; most = most }
+link from to least most = record { sender = from; to = to; least = least; most = most; stamps = false }
 
 -- both groups at x, and b at y
 abbrev near : Scenario

@@ -139,7 +139,7 @@ module _ (used : Used) (scenario : Scenario) (targets : List Target) (least : Ex
 
   exceeded_by : (order : List ℕ) → IsOrder scenario order → (witness : Witness) → IsGood witness
       → IsLate (in_order scenario order) (target_for witness).message (number_in (names_of scenario order) scenario.groups (group_for witness)) (latency_for witness)
-      → IsExceededIn scenario targets order least
+      → IsExceededIn None scenario targets order least
   exceeded_by order in_order_is witness is late =
       let target : Target = target_for witness in
       let may_be = may target is.of_target in
@@ -158,7 +158,7 @@ module _ (used : Used) (scenario : Scenario) (targets : List Target) (least : Ex
 
   late_all : ((witness : Witness) → IsIn witness witnesses → IsGood witness) → 0 < length witnesses → IsExceeded scenario targets least
   late_all each some order in_order_is = by_first witnesses refl where
-    by_first : (ws : List Witness) → witnesses ≡ ws → IsExceededIn scenario targets order least
+    by_first : (ws : List Witness) → witnesses ≡ ws → IsExceededIn None scenario targets order least
     by_first [] e = absurd (omega (arith, some, ap length e))
     by_first (first ∷ rest) e =
         let chosen : ℕ → Witness = λ g. pick group_for witnesses first g in

@@ -20,6 +20,4 @@ mod plan_refusal;
 mod plan_refused;
 mod refusal_lines;
 mod shown;
-#[cfg(test)]
-mod tests;
 mod walking;

@@ -119,7 +119,7 @@ fn by_best_order<R: Threads + Wait + Sync, W: Watch + Sync>(
     requires some { 0 < length targets.now }
     requires lawful { All (MayBeTarget scenario.now) targets.now }
 {
-    let best = best_order(rt, alloc, scenario, targets, claim.options, watches)?;
+    let best = best_order(rt, alloc, None, scenario, targets, claim.options, watches)?;
     if best.reasons.is_empty() {
         return Ok(None);
     }

@@ -12,10 +12,11 @@ use Rattle.convoy_draft.specs.Draft.{Draft, DraftLink, DraftMessage}
 use Rattle.convoy_scenario.specs.Numbering.{scenario_of_draft}
 use Rattle.convoy_scenario.specs.Scenario.{Scenario}
 use Rattle.convoy_toml.specs.declared.links.TheConstants.{MOST_WRITTEN_LINKS}
+use Rattle.convoy_toml.specs.Agreements.{Agreement, with_agreements}
 use Rattle.convoy_toml.specs.Links.{Bundle, count_of, links_of_bundle, links_of_bundles}
 use Rattle.convoy_toml.specs.Reading.{need_ranges, scenario_of_written}
 use Rattle.convoy_toml.specs.Shape.{WrittenLink, WrittenScenario}
-use Rattle.convoy_toml.specs.Times.{bundle_of, bundles_of, delay_or_greatest, draft_messages_of, draft_of_written, need_least, tick_of, whole_if_written}
+use Rattle.convoy_toml.specs.Times.{agreements_of, bundle_of, bundles_of, delay_or_greatest, draft_messages_of, draft_of_written, need_least, tick_of, whole_if_written}
 use Rattle.convoy_toml.specs.Ways.{Way, carries, lacks_link, link_along, with_least, ways_without_link}
 use Rattle.convoy_plans.proofs.Members.{In, in_either, in_first, in_map_back, of_filter}
 
@@ -92,7 +93,7 @@ link_comes (Some least) draft link h = by_test (int_le least (pos 1)) h where
     by_part (inl written) = inl written
     by_part (inr added) = inr (added_away least draft.delay draft link added)
 
--- ---- the draft of what is written
+-- ---- the draft of what is written, where nothing is said of replicas that agree
 pub record Drafted (written : WrittenScenario) (draft : Draft) : Type 0 where
   pub tick : Option ℕ
   pub tick_is : tick_of written ≡ Ok tick
@@ -121,17 +122,19 @@ timed written tick delay messages bundles links = record {
   target_group = written.target_group;
 }
 
-pub drafted_of : (written : WrittenScenario) (draft : Draft) → draft_of_written written ≡ Ok draft → Drafted written draft
-drafted_of written draft e =
+pub drafted_of : (written : WrittenScenario) (draft : Draft) → written.agreements ≡ [] → draft_of_written written ≡ Ok draft → Drafted written draft
+drafted_of written draft none e =
     let t = after_ok (tick_of written) _ draft e in
     let d = after_ok (whole_if_written t.0 Delay written.delay) _ draft t.2 in
     let l = after_ok (whole_if_written t.0 Least written.least) _ draft d.2 in
     let m = after_ok (draft_messages_of t.0 written.messages) _ draft l.2 in
     let b = after_ok (bundles_of t.0 written.links) _ draft m.2 in
-    let k = after_ok (links_of_bundles b.0) _ draft b.2 in
+    let a = after_ok (agreements_of t.0 written.agreements) _ draft b.2 in
+    let k = after_ok (links_of_bundles b.0) _ draft a.2 in
     let n = after_ok (need_least written.time (delay_or_greatest d.0 b.0) l.0) _ draft k.2 in
     let base : Draft = timed written t.0 d.0 m.0 b.0 k.0 in
-    let same : with_least l.0 base ≡ draft = one_ok _ _ n.2 in
+    let no_agreements : a.0 ≡ [] = one_ok a.0 [] (sym a.1 ∙ ap (agreements_of t.0) none) in
+    let same : with_least l.0 base ≡ draft = one_ok _ _ (subst (λ (agreements : List Agreement). with_agreements l.0 agreements base ≡ Ok draft) no_agreements n.2) in
     let few : flat_map links_of_bundle b.0 ≡ k.0 = few_links b.0 k.0 k.1 in
     record {
       tick = t.0;

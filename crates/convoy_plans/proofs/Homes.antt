@@ -1,11 +1,13 @@
 -- In the scenario of a placement no group has a link to itself: each link leads from a place to another one.
 use Rattle.std.proofs.Common.{◌≡◌, ◌⊎◌, ℕ, ℤ, ◌==◌, ◌&&◌, ◌||◌, not, Bool, true, false, List, [], ◌∷◌, map, flat_map, find, Option, Some, None, is_some, refl, sym, ap, subst, ◌∙◌, inl, inr}
 use Rattle.std.specs.List.{list_all}
+use Rattle.std.specs.Option.{option_map_or}
 use Rattle.std.proofs.lemmas.Bool.{and_parts, cases_Bool, eq-eqb, eqb-true, false_from_ne_true, true≢false}
 use Rattle.convoy_draft.specs.Checks.{checks, is_among, is_known_sender, is_named_alike, judge, knows_link, leads_elsewhere}
 use Rattle.convoy_draft.specs.Draft.{Draft, DraftLink}
 use Rattle.convoy_scenario.specs.declared.sender.Sender.TheVariants.{Group}
 use Rattle.convoy_scenario.specs.Numbering.{link_of, place, scenario_of}
+use Rattle.convoy_scenario.specs.Scenario.{Link}
 use Rattle.convoy_scenario.proofs.GivenScenarios.{passed}
 use Rattle.convoy_scenario.proofs.KeptRanges.{leads}
 use Rattle.convoy_scenario.proofs.NumberedLemmas.{passes}
@@ -42,21 +44,21 @@ lone_at plan placement table h =
     lone_to plan placement s.0 g.0 table g.2
 
 -- so each link that it writes leads elsewhere
-lone_elsewhere : (name : Option (List ℕ)) (to : List ℕ) (least most : ℤ) (link : DraftLink) → is_named_alike name (Some to) ≡ false
-    → In link (links_of_bundle (record { ends = lone_ends name to; least = least; most = most })) → leads_elsewhere link ≡ true
-lone_elsewhere None to least most link apart (inl is) = ap leads_elsewhere is
-lone_elsewhere None to least most link apart (inr h) = absurd h
-lone_elsewhere (Some name) to least most link apart h = by_place (rw apart at h) where
-  by_place : In link (record { sender = Some name; to = to; least = least; most = most } ∷ []) → leads_elsewhere link ≡ true
+lone_elsewhere : (name : Option (List ℕ)) (to : List ℕ) (least most : ℤ) (stamps : Bool) (link : DraftLink) → is_named_alike name (Some to) ≡ false
+    → In link (links_of_bundle (record { ends = lone_ends name to; least = least; most = most; stamps = stamps })) → leads_elsewhere link ≡ true
+lone_elsewhere None to least most stamps link apart (inl is) = ap leads_elsewhere is
+lone_elsewhere None to least most stamps link apart (inr h) = absurd h
+lone_elsewhere (Some name) to least most stamps link apart h = by_place (rw apart at h) where
+  by_place : In link (record { sender = Some name; to = to; least = least; most = most; stamps = stamps } ∷ []) → leads_elsewhere link ≡ true
   by_place (inl is) = ap leads_elsewhere is ∙ ap not apart
   by_place (inr h) = absurd h
 
-bundle_elsewhere : (bundle : Bundle) (ends : LinkEnds) (name : Option (List ℕ)) (to : List ℕ) (link : DraftLink) → is_named_alike name (Some to) ≡ false → ends ≡ lone_ends name to
-    → bundle ≡ record { ends = ends; least = bundle.least; most = bundle.most } → In link (links_of_bundle bundle) → leads_elsewhere link ≡ true
-bundle_elsewhere bundle ends name to link apart lone is h =
-    let same : bundle ≡ record { ends = lone_ends name to; least = bundle.least; most = bundle.most } =
-    is ∙ ap (λ (e : LinkEnds). record { ends = e; least = bundle.least; most = bundle.most }) lone in
-    lone_elsewhere name to bundle.least bundle.most link apart (subst (λ (b : Bundle). In link (links_of_bundle b)) same h)
+bundle_elsewhere : (bundle : Bundle) (ends : LinkEnds) (stamps : Bool) (name : Option (List ℕ)) (to : List ℕ) (link : DraftLink) → is_named_alike name (Some to) ≡ false → ends ≡ lone_ends name to
+    → bundle ≡ record { ends = ends; least = bundle.least; most = bundle.most; stamps = stamps } → In link (links_of_bundle bundle) → leads_elsewhere link ≡ true
+bundle_elsewhere bundle ends stamps name to link apart lone is h =
+    let same : bundle ≡ record { ends = lone_ends name to; least = bundle.least; most = bundle.most; stamps = stamps } =
+    is ∙ ap (λ (e : LinkEnds). record { ends = e; least = bundle.least; most = bundle.most; stamps = stamps }) lone in
+    lone_elsewhere name to bundle.least bundle.most stamps link apart (subst (λ (b : Bundle). In link (links_of_bundle b)) same h)
 
 -- ---- where each link leads elsewhere none leads from a group to itself
 not_home : (groups : List (List ℕ)) (g : ℕ) (link : DraftLink) → knows_link groups link ≡ true → leads_elsewhere link ≡ true → leads (Group g) g (link_of groups link) ≡ false
@@ -90,14 +92,17 @@ drafted_elsewhere plan placement draft d link h = by_source (d.links_come link h
       let b = in_flat_map_back links_of_bundle link d.bundles written in
       let t = bundle_from d.tick (links_at plan placement) d.bundles b.0 d.bundles_are b.1 in
       let lone = lone_at plan placement t.0 t.1 in
-      bundle_elsewhere b.0 t.0.ends lone.0 lone.1 link lone.2 lone.3 (in_ticks d.tick t.0 b.0 t.2).is b.2
+      bundle_elsewhere b.0 t.0.ends t.0.stamps lone.0 lone.1 link lone.2 lone.3 (in_ticks d.tick t.0 b.0 t.2).is b.2
 
 pub no_links_to_themselves : GroupsHaveNoLinksToThemselves
 no_links_to_themselves plan placement scenario g e =
     let m = made_of (written_at plan placement) scenario e in
-    let d = drafted_of (written_at plan placement) m.draft m.drafted in
+    let d = drafted_of (written_at plan placement) m.draft refl m.drafted in
     let p = passes m.draft (passed (judge (checks m.draft)) (scenario_of m.draft) scenario m.given).0 in
     let none = none_home m.draft.groups g m.draft.links p.ends (drafted_elsewhere plan placement m.draft d) in
-    taking_kept m.draft scenario (Group g) g m.given
-    ∙ ap (λ (found : Bool). not (g == g) || found) (ap is_some none)
-    ∙ ap (λ (home : Bool). not home || false) (eq-eqb g g refl)
+    let kept = taking_kept m.draft scenario m.given in
+    let home : (not (g == g) || false) ≡ false = ap (λ (same : Bool). not same || false) (eq-eqb g g refl) in
+    record {
+      messages = kept.messages (Group g) g ∙ ap (λ (found : Option Link). not (g == g) || is_some found) none ∙ home;
+      stamps = kept.stamps g g ∙ ap (λ (found : Option Link). not (g == g) || option_map_or (λ (link : Link). link.stamps) found false) none ∙ home;
+    }

@@ -182,7 +182,7 @@ sent_from plan is i within =
 pub messages_of_plans : MessagesAreOfPlans
 messages_of_plans plan placement scenario i is e within =
     let m = made_of (written_at plan placement) scenario e in
-    let d = drafted_of (written_at plan placement) m.draft m.drafted in
+    let d = drafted_of (written_at plan placement) m.draft refl m.drafted in
     let made = (passed (judge (checks m.draft)) (scenario_of m.draft) scenario m.given).1 in
     let differ = names_differ plan placement scenario is e in
     let t = all_in_ticks d.tick (map (message_in plan) plan.written.messages) m.draft.messages d.messages_are in

@@ -38,14 +38,14 @@ use Rattle.convoy_plans.proofs.Members.{In, in_at, in_first, in_flat_map, in_map
 -- ---- a table of links in ticks
 
 pub record InTicks (tick : Option ℕ) (link : WrittenLink) (bundle : Bundle) : Type 0 where
-  pub is : bundle ≡ record { ends = link.ends; least = bundle.least; most = bundle.most }
+  pub is : bundle ≡ record { ends = link.ends; least = bundle.least; most = bundle.most; stamps = link.stamps }
   pub most : whole tick Most link.most ≡ Ok bundle.most
 
 pub in_ticks : (tick : Option ℕ) (link : WrittenLink) (bundle : Bundle) → bundle_of tick link ≡ Ok bundle → InTicks tick link bundle
 in_ticks tick link bundle e =
-    let l = after_ok (whole tick Least link.least) (λ least. whole tick Most link.most >>= λ most. Ok (record { ends = link.ends; least = least; most = most })) bundle e in
-    let m = after_ok (whole tick Most link.most) (λ most. Ok (record { ends = link.ends; least = l.0; most = most })) bundle l.2 in
-    let made : Bundle = record { ends = link.ends; least = l.0; most = m.0 } in
+    let l = after_ok (whole tick Least link.least) (λ least. whole tick Most link.most >>= λ most. Ok (record { ends = link.ends; least = least; most = most; stamps = link.stamps })) bundle e in
+    let m = after_ok (whole tick Most link.most) (λ most. Ok (record { ends = link.ends; least = l.0; most = most; stamps = link.stamps })) bundle l.2 in
+    let made : Bundle = record { ends = link.ends; least = l.0; most = m.0; stamps = link.stamps } in
     let same : made ≡ bundle = one_ok made bundle m.2 in
     subst (InTicks tick link) same (record { is = refl; most = m.1 })
 
@@ -86,7 +86,7 @@ abbrev pub lone_ends : Option (List ℕ) → List ℕ → LinkEnds
 lone_ends name to = record { senders = option_map (λ n. n ∷ []) name; to = to ∷ []; both = false }
 
 lone_link : (name : Option (List ℕ)) (to : List ℕ) (least most : ℤ) → is_named_alike name (Some to) ≡ false
-    → In (record { sender = name; to = to; least = least; most = most }) (links_of_bundle (record { ends = lone_ends name to; least = least; most = most }))
+    → In (record { sender = name; to = to; least = least; most = most; stamps = false }) (links_of_bundle (record { ends = lone_ends name to; least = least; most = most; stamps = false }))
 lone_link None to least most apart = inl refl
 lone_link (Some name) to least most apart = rw apart (inl refl)
 
@@ -125,7 +125,7 @@ module _ (plan : Plan) (placement : List ℕ) (scenario : Scenario) (is : IsPlan
   made = made_of written scenario e
 
   drafted : (m : Made written scenario) → Drafted written m.draft
-  drafted m = drafted_of written m.draft m.drafted
+  drafted m = drafted_of written m.draft refl m.drafted
 
   passing : (m : Made written scenario) → Passes m.draft
   passing m = passes m.draft (passed (judge (checks m.draft)) (scenario_of m.draft) scenario m.given).0
@@ -149,7 +149,7 @@ module _ (plan : Plan) (placement : List ℕ) (scenario : Scenario) (is : IsPlan
             let d = drafted m in
             let p = passing m in
             let name = group_name plan g in
-            let table : WrittenLink = record { ends = lone_ends spot.name name; least = link.least; most = link.most } in
+            let table : WrittenLink = record { ends = lone_ends spot.name name; least = link.least; most = link.most; stamps = false } in
             let to : link_to plan placement spot g ≡ table ∷ [] = rw (apart, at) refl in
             let here : In table (link_to plan placement spot g) = rw to (inl refl) in
             let there : In table (links_from plan placement spot) = in_flat_map (link_to plan placement spot) g table (group_numbers plan) (in_range (length plan.written.groups) g within) here in
@@ -159,7 +159,7 @@ module _ (plan : Plan) (placement : List ℕ) (scenario : Scenario) (is : IsPlan
             let s = in_ticks plan.tick link bundle ticks_are in
             let kept : whole d.tick Most link.most ≡ Ok bundle.most = same_ticks plan.tick d.tick written Most link.most bundle.most refl d.tick_is s.most in
             let most : b.0.most ≡ bundle.most = one_ok _ _ (sym t.most ∙ kept) in
-            let drawn : DraftLink = record { sender = spot.name; to = name; least = b.0.least; most = b.0.most } in
+            let drawn : DraftLink = record { sender = spot.name; to = name; least = b.0.least; most = b.0.most; stamps = false } in
             let lone : In drawn (links_of_bundle b.0) = subst (λ (x : Bundle). In drawn (links_of_bundle x)) (sym t.is) (lone_link spot.name name b.0.least b.0.most apart) in
             let linked : In drawn m.draft.links = d.links_have drawn (in_flat_map links_of_bundle b.0 drawn d.bundles b.1 lone) in
             let sender = sender_of (groups_in plan) spot.name in

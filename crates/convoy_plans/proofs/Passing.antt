@@ -30,7 +30,7 @@ passing plan draft housed h =
       some = omega arith;
       differ = names.1.0;
       addressed = groups.1.1.0;
-      sent = sites.1.1.1.1.0;
+      sent = sites.1.1.1.1.1.0;
     }
 
 pub passes : (plan : WrittenPlan) (draft : Draft) (housed : List (List ℕ)) → IsUnlessMemory (Scenario Memory) (judge (rules_of plan draft housed (places_of plan) (settled_of plan))) (Ok tt) → Passes plan

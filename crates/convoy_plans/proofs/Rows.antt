@@ -1,5 +1,7 @@
 -- Worked rows: a plan of two sites, and its scenarios.
 use Rattle.std.proofs.Common.{◌≡◌, refl, true, false, pos, [], ◌∷◌, Bool, Option, Some, None, ℕ, List, Ok, Err, codes}
+use Rattle.convoy_draft.specs.declared.fault.Key.TheVariants.{Stamps}
+use Rattle.convoy_draft.specs.declared.fault.ScenarioFault.TheVariants.{Shape}
 use Rattle.convoy_draft.specs.declared.time.Time.TheVariants.{Real}
 use Rattle.convoy_scenario.specs.declared.sender.Sender.{Sender}
 use Rattle.convoy_scenario.specs.declared.sender.Sender.TheVariants as sender
@@ -8,7 +10,7 @@ use Rattle.convoy_toml.specs.Links.{Bundle}
 use Rattle.convoy_toml.specs.Reading.{as_written}
 use Rattle.convoy_toml.specs.Shape.{LinkEnds, WrittenLink, WrittenMessage}
 use Rattle.convoy_toml.specs.declared.written.WrittenTime.TheVariants.{Count}
-use Rattle.convoy_plans.specs.declared.fault.PlanFault.TheVariants.{NoPlace, NoRange, NoSites, UnknownSite}
+use Rattle.convoy_plans.specs.declared.fault.PlanFault.TheVariants.{NoPlace, NoRange, NoSites, Scenario as InScenario, UnknownSite}
 use Rattle.convoy_plans.specs.Numbering.{plan_in}
 use Rattle.convoy_plans.specs.Placements.{scenario_at}
 use Rattle.convoy_plans.specs.Plans.{Home, Plan, WrittenPlan, most_between}
@@ -19,7 +21,7 @@ abbrev ends : List ℕ → List ℕ → Bool → LinkEnds
 ends from to both = record { senders = Some (from ∷ []); to = to ∷ []; both = both }
 
 abbrev between : List ℕ → List ℕ → Bool → ℕ → ℕ → WrittenLink
-between from to both least most = record { ends = ends from to both; least = Count (pos least); most = Count (pos most) }
+between from to both least most = record { ends = ends from to both; least = Count (pos least); most = Count (pos most); stamps = false }
 
 -- a client at the site x sends a message to the groups a and b
 abbrev message : Option (List ℕ) → WrittenMessage
@@ -44,6 +46,7 @@ written from tables homes = record {
     delay = Some (Count (pos 10));
     least = None;
     groups = codes "a" ∷ codes "b" ∷ [];
+    agreements = [];
     links = tables;
     messages = message from ∷ [];
     target_message = codes "m";
@@ -62,8 +65,8 @@ homes = home (codes "b") (codes "x" ∷ codes "y" ∷ []) ∷ home (codes "a") (
 
 abbrev bundles : List Bundle
 bundles =
-    record { ends = ends (codes "x") (codes "x") false; least = pos 1; most = pos 2 }
-    ∷ record { ends = ends (codes "x") (codes "y") true; least = pos 5; most = pos 9 }
+    record { ends = ends (codes "x") (codes "x") false; least = pos 1; most = pos 2; stamps = false }
+    ∷ record { ends = ends (codes "x") (codes "y") true; least = pos 5; most = pos 9; stamps = false }
     ∷ []
 
 abbrev plan : Plan
@@ -88,6 +91,10 @@ no_place = refl
 elsewhere : plan_of_written as_written None (written (Some (codes "z")) links homes) ≡ Err UnknownSite
 elsewhere = refl
 
+-- no link between sites is for stamps
+for_stamps : plan_of_written as_written None (written (Some (codes "x")) (record (between (codes "x") (codes "x") false 1 2) { stamps = true } ∷ between (codes "x") (codes "y") true 5 9 ∷ []) homes) ≡ Err (InScenario (Shape Stamps))
+for_stamps = refl
+
 back : most_between plan 1 0 ≡ 9
 back = refl
 
@@ -108,7 +115,7 @@ scenario made = record {
 }
 
 abbrev link : Sender → ℕ → ℕ → ℕ → Link
-link from to least most = record { sender = from; to = to; least = least; most = most }
+link from to least most = record { sender = from; to = to; least = least; most = most; stamps = false }
 
 together : scenario_at plan (0 ∷ 0 ∷ []) ≡ Ok (scenario (link sender.Client 0 1 2 ∷ link sender.Client 1 1 2 ∷ link (sender.Group 0) 1 1 2 ∷ link (sender.Group 1) 0 1 2 ∷ []))
 together = refl

@@ -1,7 +1,7 @@
 -- The rules for a plan as it is written, in the order in which they are asked.
-use Rattle.std.specs.Prelude.{ℕ, ◌*◌, nat_le, Bool, ◌&&◌, false, if◌then◌else◌, List, [], ◌∷◌, ◌++◌, map, length, Option, Some, None, is_some, Result, Ok, Err}
+use Rattle.std.specs.Prelude.{ℕ, ◌*◌, nat_le, Bool, ◌&&◌, false, not, if◌then◌else◌, List, [], ◌∷◌, ◌++◌, map, length, Option, Some, None, is_some, Result, Ok, Err}
 use Rattle.std.specs.List.{list_all}
-use Rattle.convoy_draft.specs.declared.fault.Key.TheVariants.{From}
+use Rattle.convoy_draft.specs.declared.fault.Key.TheVariants.{From, Stamps}
 use Rattle.convoy_draft.specs.declared.fault.Limit.TheVariants.{Delay, Link}
 use Rattle.convoy_draft.specs.declared.fault.ScenarioFault.TheVariants as scenario
 use Rattle.convoy_draft.specs.Checks.{all_differ, has_range, is_among, is_count, is_within, links_differ}
@@ -70,11 +70,12 @@ group_checks plan settled =
     ∷ (are_among plan.scenario.groups settled, NoSites)
     ∷ []
 
--- the rules on what refers to sites, and on what sends messages: one of these places
+-- the rules on what refers to sites, and on what sends messages: one of these places; no link between sites is for a group's own stamps
 abbrev pub site_checks : WrittenPlan → List (List ℕ) → List PlanCheck
 site_checks plan places =
     (list_all (λ home. are_among home.sites plan.sites) plan.homes, UnknownSite)
     ∷ (list_all (λ link. is_some link.ends.senders) plan.scenario.links, Scenario (scenario.Shape From))
+    ∷ (list_all (λ link. not link.stamps) plan.scenario.links, Scenario (scenario.Shape Stamps))
     ∷ (list_all (λ link. knows_ends plan.sites link.ends) plan.scenario.links, UnknownSite)
     ∷ (list_all (λ message. is_some message.sender) plan.scenario.messages, NoPlace)
     ∷ (list_all (is_sent_from places) plan.scenario.messages, UnknownSite)

@@ -89,6 +89,7 @@ link_along spot to (Some link) = record {
   ends = record { senders = option_map (λ name. name ∷ []) spot.name; to = to ∷ []; both = false };
   least = link.least;
   most = link.most;
+  stamps = false;
 } ∷ []
 
 -- the first table whose links lead from the one site to the other
@@ -118,6 +119,7 @@ abbrev pub written_at : Plan → List ℕ → WrittenScenario
 written_at plan placement = record plan.written {
   tick = plan.tick;
   groups = groups_in plan;
+  agreements = [];
   links = links_at plan placement;
   messages = map (message_in plan) plan.written.messages;
 }

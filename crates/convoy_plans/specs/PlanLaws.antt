@@ -1,7 +1,7 @@
 -- What is proved of the scenarios of a plan. Each is the one clause of the function of its name in the crate's module `plan_laws`.
 use Rattle.std.specs.Prelude.{◌≡◌, ◌≢◌, ℕ, ◌<◌, ◌≤◌, List, length, Some, Ok, IsFalse}
 use Rattle.convoy_scenario.specs.Numbering.{sender_of}
-use Rattle.convoy_scenario.specs.Scenario.{Scenario, message_at, range_between, takes_time}
+use Rattle.convoy_scenario.specs.Scenario.{Scenario, message_at, range_between, stamp_takes_time, takes_time}
 use Rattle.convoy_scenario.specs.declared.sender.Sender.{Sender}
 use Rattle.convoy_scenario.specs.declared.sender.Sender.TheVariants as senders
 use Rattle.convoy_plans.specs.Placements.{groups_in, scenario_at, sender_in, site_at}
@@ -27,11 +27,16 @@ RangesAreOfSites =
     → IsOrigin plan from → g < length plan.written.groups → from ≢ Group g
     → most_between plan (site_of placement from) (site_at placement g) ≤ (range_between scenario (sender_for plan from) g).1
 
--- In the scenario of a placement no group has a link to itself: what it sends to itself takes no time.
+-- what the group sends to itself takes no time, be it a message or its own stamp
+pub record TakesNoTimeAtHome (scenario : Scenario) (g : ℕ) : Type 0 where
+  pub messages : IsFalse (takes_time scenario (senders.Group g) g)
+  pub stamps : IsFalse (stamp_takes_time scenario g g)
+
+-- In the scenario of a placement no group has a link to itself: neither a message that it sends to itself nor its own stamp takes time.
 abbrev pub GroupsHaveNoLinksToThemselves : Type 0
 GroupsHaveNoLinksToThemselves =
     (plan : Plan) (placement : List ℕ) (scenario : Scenario) (g : ℕ) → scenario_at plan placement ≡ Ok scenario
-    → IsFalse (takes_time scenario (senders.Group g) g)
+    → TakesNoTimeAtHome scenario g
 
 -- what a message of the scenario of a placement has from the plan: who sends it, and the groups that it goes to, by their numbers
 pub record IsOfPlan (plan : Plan) (scenario : Scenario) (m : ℕ) : Type 0 where

@@ -1,9 +1,9 @@
 //! The rules for a plan as it is written, in the order in which they are asked.
 
-ghost use Rattle.std.specs.Prelude.{◌≡◌, ◌++◌, ◌&&◌, ◌*◌, ◌^◌, ◌-◌, is_some, length, map, min, nat_le, IfOk};
+ghost use Rattle.std.specs.Prelude.{◌≡◌, ◌++◌, ◌&&◌, ◌*◌, ◌^◌, ◌-◌, is_some, not, length, map, min, nat_le, IfOk};
 ghost use Rattle.std.specs.List.{list_all, list_any};
 ghost use Rattle.convoy_draft.specs.declared.fault.ScenarioFault.TheVariants.{Memory};
-ghost use Rattle.convoy_draft.specs.Checks.{all_differ, has_range, is_among, is_count, is_same_pair, links_differ};
+ghost use Rattle.convoy_draft.specs.Checks.{all_differ, is_among, is_count, is_same_pair, links_differ};
 ghost use Rattle.convoy_draft.specs.Names.{is_group_name};
 ghost use Rattle.convoy_scenario.specs.Memory.{IsUnlessMemory};
 ghost use Rattle.convoy_plans.specs.declared.fault.PlanFault.TheVariants.{Scenario};
@@ -13,6 +13,7 @@ use super::fault::{MOST_PLACEMENTS, MOST_SITES, PlanFault, PlanLimit};
 use super::lists::{Names, Numbers};
 use super::ranges::senders_of;
 use super::written::{Home, WrittenPlan};
+use convoy_draft::all_have_ranges;
 use convoy_scenario::{
     DraftLink, DraftScenario, Key, Limit, Name, ScenarioFault, is_named_alike, is_within,
 };
@@ -169,6 +170,9 @@ fn check_sites(plan: &WrittenPlan, places: &[Name]) -> Result<(), PlanFault>
     if !all_links_have_senders(&plan.scenario.links) {
         return Err(PlanFault::Scenario(ScenarioFault::Shape(Key::From)));
     }
+    if !none_is_for_stamps(&plan.scenario.links) {
+        return Err(PlanFault::Scenario(ScenarioFault::Shape(Key::Stamps)));
+    }
     if !all_ends_are_known(&plan.scenario.links, &plan.sites) {
         return Err(PlanFault::UnknownSite);
     }
@@ -185,18 +189,6 @@ fn is_count(count: usize, most: usize) -> bool
     ensures { result ≡ (nat_le 1 count && nat_le count most) }
 {
     1 <= count && count <= most
-}
-
-fn has_range(delay: i64, link: &DraftLink) -> bool
-    ensures { result ≡ has_range delay link.now }
-{
-    1 <= link.least && link.least <= link.most && link.most <= delay
-}
-
-fn all_have_ranges(delay: i64, links: &[DraftLink]) -> bool
-    ensures { result ≡ list_all (has_range delay) links.now }
-{
-    links.iter().all(|link| has_range(delay, link))
 }
 
 /// So many times the sites, or `usize::MAX` where that is more.
@@ -298,6 +290,13 @@ fn all_links_have_senders(links: &[WrittenLink]) -> bool
     ensures { result ≡ list_all (λ link. is_some link.ends.senders) links.now }
 {
     links.iter().all(|link| has_senders(&link.ends))
+}
+
+/// Whether no link is for a group's own stamps: a plan's links lead from site to site.
+fn none_is_for_stamps(links: &[WrittenLink]) -> bool
+    ensures { result ≡ list_all (λ link. not link.stamps) links.now }
+{
+    links.iter().all(|link| !link.stamps)
 }
 
 fn has_senders(ends: &LinkEnds) -> bool

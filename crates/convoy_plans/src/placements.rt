@@ -45,6 +45,7 @@ pub fn written_at(
         delay: written.delay,
         least: written.least,
         groups: groups_in(alloc, plan)?,
+        agreements: Vec::new(alloc),
         links: links_at(alloc, plan, placement)?,
         multicasts: messages_in(alloc, plan)?,
         target_message: written.target_message.copy()?,
@@ -220,6 +221,7 @@ fn link_along(
         },
         least: link.least,
         most: link.most,
+        stamps: false,
     })
 }
 

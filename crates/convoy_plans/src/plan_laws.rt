@@ -8,7 +8,8 @@ pub fn ranges_are_of_sites()
     ensures { RangesAreOfSites }
 {}
 
-/// In the scenario of a placement no group has a link to itself: what it sends to itself takes no time.
+/// In the scenario of a placement no group has a link to itself: neither a message that it sends to itself nor its own stamp
+/// takes time.
 pub fn groups_have_no_links_to_themselves()
     ensures { GroupsHaveNoLinksToThemselves }
 {}

@@ -20,5 +20,3 @@ mod ranges;
 mod reading;
 mod rows;
 mod sighting;
-#[cfg(test)]
-mod tests;

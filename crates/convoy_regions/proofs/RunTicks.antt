@@ -1,12 +1,13 @@
 -- In an assignment a message arrives at another group a tick or more before it is committed, so that the rank of its commit is its own where it is no less than that of its arrival there.
 use Rattle.std.proofs.Common.{◌≡◌, ℕ, ◌<◌, ◌≤◌, max, Bool, ◌==◌, ◌&&◌, not, inl, inr, List, [], ◌∷◌, length, find, Option, All, map, fold, sym, ap, subst, ◌∙◌, arith}
 use Rattle.std.specs.Option.{option_map_or}
-use Rattle.std.proofs.lemmas.Bool.{cases_Bool, cases_eq, cond-true, cond-false, and_from, ne_eqb, not_from_false}
+use Rattle.std.proofs.lemmas.Bool.{cases_Bool, cases_eq, cond-true, cond-false, and_from, ne_eqb}
 use Rattle.std.proofs.lemmas.List.Elements.{All-head, All-tail, All-weaker}
 use Rattle.convoy_draft.specs.declared.time.Time.TheVariants.{Real}
 use Rattle.convoy_scenario.specs.declared.sender.Sender.{Sender}
 use Rattle.convoy_scenario.specs.declared.sender.Sender.TheVariants.{Group}
-use Rattle.convoy_scenario.specs.Scenario.{GoesTo, Link, Scenario, message_at, range_between, is_same_sender, is_addressed}
+use Rattle.convoy_packets.proofs.Sent.{other_stamp_takes}
+use Rattle.convoy_scenario.specs.Scenario.{GoesTo, Link, Scenario, message_at, range_between, is_same_sender, is_addressed, stamp_takes_time}
 use Rattle.convoy_scenario.specs.WellFormed.{IsLink, IsScenario}
 use Rattle.convoy_packets.specs.declared.packet.Packet.TheVariants.{Propose}
 use Rattle.convoy_packets.specs.Assignment.{IsAssignment, Schedule}
@@ -43,8 +44,8 @@ module _ (law : DelaysAreWithin) (plan : Scenario) (schedule : Schedule) (well :
   arrives_sooner : (m g h : ℕ) → GoesTo plan m g → GoesTo plan m h → (h ≡ g → ⊥) → arrive plan schedule m h < settle plan schedule m g
   unfolding settle
   arrives_sooner m g h here there apart =
-      let sent = and_from (is_addressed (message_at plan m) h && is_addressed (message_at plan m) g) (not (h == g))
-      (and_from (is_addressed (message_at plan m) h) (is_addressed (message_at plan m) g) there here) (not_from_false (h == g) (ne_eqb h g apart)) in
+      let sent = and_from (is_addressed (message_at plan m) h && is_addressed (message_at plan m) g) (stamp_takes_time plan h g)
+      (and_from (is_addressed (message_at plan m) h) (is_addressed (message_at plan m) g) there here) (other_stamp_takes plan h g (ne_eqb h g apart)) in
       let within = law plan schedule (Propose m h g) assigned sent in
       let low = sent_low plan well (Group h) g in
       let last = no_greater (propose_arrive plan schedule m g) h (message_at plan m).destinations there in

@@ -1,5 +1,5 @@
 -- How a report is written: as a page in HTML, piece by piece.
-use Rattle.std.specs.Prelude.{ℕ, Bool, true, false, List, ◌++◌, codes, Option, Some, None, option_map, string_bytes}
+use Rattle.std.specs.Prelude.{ℕ, Bool, true, false, List, [], ◌++◌, codes, decimal, Option, Some, None, option_map, string_bytes}
 use Rattle.std.specs.List.{flat_map}
 use Rattle.convoy_scenario.specs.Scenario.{Scenario, group_name_at, message_at}
 use Rattle.convoy_tables.specs.declared.format.Format.TheVariants.{Html}
@@ -10,7 +10,7 @@ use Rattle.convoy_commands.specs.Verdicts.{has_deadline}
 use Rattle.convoy_survey.specs.Cells.{table_of}
 use Rattle.convoy_survey.specs.Surveys.{end_of}
 use Rattle.convoy_budget.specs.Ways.{ways_of}
-use Rattle.convoy_report.specs.declared.notes.TheConstants.{CHANGES_NOTE, DIGEST_END, DIGEST_START, FOUND_NOTE, MESSAGES_START, PAGE_END, PAGE_START, RUN_NOTE, STYLE, SURVEY_NOTE, SYSTEM_START, WAYS_START}
+use Rattle.convoy_report.specs.declared.notes.TheConstants.{AROUND_END, AROUND_START, CHANGES_NOTE, DIGEST_END, DIGEST_START, FOUND_NOTE, MESSAGES_START, PAGE_END, PAGE_START, RUN_NOTE, STYLE, SURVEY_NOTE, SYSTEM_START, WAYS_START}
 use Rattle.convoy_report.specs.declared.report.Report.{Report}
 use Rattle.convoy_report.specs.declared.report.Run.{Run}
 use Rattle.convoy_report.specs.declared.report.Shown.{Shown}
@@ -35,6 +35,11 @@ verdict_text judged Beyond = codes "<p class=\"verdict missed\">A deadline is mi
 verdict_text true Open = codes "<p class=\"verdict unknown\">It is not known whether each deadline is kept: a search did not end.</p>\n"
 verdict_text false Open = codes "<p class=\"verdict unknown\">There is no deadline, and a search did not end.</p>\n"
 verdict_text judged other = codes "<p class=\"verdict unknown\">Memory ran out for a row of the table below.</p>\n"
+
+-- what is said where all is asked around targets, by so long a span
+abbrev pub around_text : Option ℕ → List ℕ
+around_text None = []
+around_text (Some span) = AROUND_START.now ++ (decimal span ++ AROUND_END.now)
 
 -- a section with a table, below its heading and a note
 unfoldable pub table_section : List ℕ → List ℕ → List ℕ → List ℕ
@@ -82,12 +87,12 @@ end_text digest = codes "<section>\n<h2>How to check this page</h2>\n" ++ (diges
 abbrev pub survey_of : Report → List ℕ
 survey_of report = table_text Html (table_of true report.times report.deadlines.items report.scenario report.rows.items)
 
--- the start of the page, the verdict and the table of the survey
+-- the start of the page, the verdict, what is asked around targets, and the table of the survey
 abbrev pub answers_text : Report → List ℕ
 answers_text report =
     start_text (title_text report.scenario report.scenario.target_message report.scenario.target_group)
     ++ (verdict_text (has_deadline report.deadlines.items) (end_of report.deadlines.items report.rows.items)
-    ++ table_section (codes "Worst cases") SURVEY_NOTE.now (survey_of report))
+    ++ (around_text report.span ++ table_section (codes "Worst cases") SURVEY_NOTE.now (survey_of report)))
 
 -- the section of the system, with a map of it
 abbrev pub system_of : Report → List ℕ → List ℕ

@@ -9,6 +9,7 @@ use Rattle.convoy_scenario.specs.WellFormed.{IsScenario}
 use Rattle.convoy_toml.specs.declared.asked.Asked.{Asked}
 use Rattle.convoy_toml.specs.declared.target.TargetKey.{TargetKey}
 use Rattle.convoy_toml.specs.declared.target.TargetKey.TheVariants.{Named}
+use Rattle.convoy_toml.specs.Around.{span_asked}
 use Rattle.convoy_toml.specs.Reading.{deadlines_of_text, scenario_of_text_by}
 use Rattle.convoy_branch.specs.Options.{Settings}
 use Rattle.convoy_tables.specs.declared.format.Format.TheVariants.{Html}
@@ -98,13 +99,14 @@ IsDigestOf text (Some digest) = IsDigest text digest
 IsDigestOf text None = (fault : Fault) × TellSays Toml text (Err fault)
 
 -- WHAT IT TELLS
--- What a report tells is what the commands answer for the text, where that is asked: its rows are those of `survey`, its runs those of `analyse`, of which `explain` and `draw` tell, its changes those of `survey --without`, and its digest that of what `scenario` writes.
+-- What a report tells is what the commands answer for the text, where that is asked: its rows are those of `survey`, each around its own target where all is asked so, its runs those of `analyse`, of which `explain` and `draw` tell, its changes those of `survey --without`, and its digest that of what `scenario` writes.
 pub record IsTold (asked : Asked) (settings : Settings) (text : List ℕ) (report : Report) : Type 0 where
   pub read : scenario_of_text_by asked text ≡ Ok report.scenario
   pub lawful : IsScenario report.scenario
   pub deadlines : report.deadlines.items ≡ deadlines_of_text asked text
   pub times : report.times ≡ times_of Html (measure_of_text settings.unit text report.scenario)
-  pub surveyed : AreSurveyed settings None report.scenario report.rows.items
+  pub span : report.span ≡ span_asked asked.around report.scenario
+  pub surveyed : AreSurveyed settings report.span report.scenario report.rows.items
   pub runs :
       AreRunsOf asked settings text report.scenario
       (shown_targets report.scenario report.deadlines.items report.rows.items) report.runs.items

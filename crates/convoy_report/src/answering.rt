@@ -13,7 +13,7 @@ use convoy_branch::Options;
 use convoy_budget::ways_of;
 use convoy_commands::{Answer, Fault, Watch};
 use convoy_packets::Instance;
-use convoy_survey::{Times, end_of, survey};
+use convoy_survey::{Times, end_of, span_of, survey};
 use convoy_tables::Format;
 use convoy_times::Measure;
 use convoy_toml::{Asked, Input, read_toml_asked};
@@ -22,13 +22,14 @@ use std::alloc::Global;
 use std::sync::Wait;
 use std::thread::Threads;
 
-/// The report of the scenario of a text, where that is asked: a page in HTML that stands alone, with the table of
+/// The report of the scenario of a text, where that is asked, and each row and run around its own target where all is
+/// asked so ([`span_of`]): a page in HTML that stands alone, with the table of
 /// [`survey_answer`](convoy_survey::survey_answer) and its verdict; the worst runs of the target and of each row beyond
-/// its deadline, but no more than nine, as [`ask`](convoy_commands::ask) explains and draws them; what each change saves
-/// ([`what_if_answer`]); the system; and the digest of the scenario (docs/FORMATS.md, "What `report` writes"). Its
-/// numbers are those of these commands, in ticks, and where times are told in the unit that the options ask for or else
-/// the text writes, too. The searches of the survey and of the changes are made as many at a time as there are watches,
-/// and each is watched by one of them; the others are watched by the first.
+/// its deadline, but no more than nine, as [`ask`](convoy_commands::ask) explains and draws them; what each change
+/// saves ([`what_if_answer`]); the system; and the digest of the scenario (docs/FORMATS.md, "What `report` writes").
+/// Its numbers are those of these commands, in ticks, and where times are told in the unit that the options ask for or
+/// else the text writes, too. The searches of the survey and of the changes are made as many at a time as there are
+/// watches, and each is watched by one of them; the others are watched by the first.
 ///
 /// It ends as the survey does. The faults are `Fault::Scenario`, where the text is that of no scenario, or where a
 /// change makes none, and `Fault::Memory`.
@@ -74,7 +75,8 @@ fn report_of<R: Threads + Wait + Sync, W: Watch + Sync>(
     // A scenario is well formed.
     let _count = scenario.message_count();
     let times = Times::of(Format::Html, Measure::of(&scenario, options.unit(), unit));
-    let rows = survey(rt, alloc, &scenario, options, watches)?;
+    let span = span_of(asked, text, &scenario);
+    let rows = survey(rt, alloc, span, &scenario, options, watches)?;
     let targets = shown_targets(alloc, &scenario, &deadlines, &rows)?;
     let watch = &watches[0];
     let runs = runs_of(rt, alloc, asked, options, text, &scenario, &targets, watch)?;
@@ -91,6 +93,7 @@ fn report_of<R: Threads + Wait + Sync, W: Watch + Sync>(
     let digest = digest_of(alloc, text)?;
     Ok(Report {
         scenario,
+        span,
         deadlines,
         times,
         rows,

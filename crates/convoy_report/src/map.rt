@@ -51,10 +51,20 @@ fn write_way(scenario: &Scenario, way: Way, text: &mut String) -> Result<(), All
     let (least, most) = scenario.range_between(way.sender, way.to);
     write!(
         text,
-        "<g><title>{from} to {to}: {least} to {most} ticks</title><path d=\""
+        "<g><title>{from} to {to}: {least} to {most} ticks{}</title><path d=\"",
+        stamps_words(scenario, way)
     )?;
     write_curve(scenario, way, text)?;
     text.push_str("\" marker-end=\"url(#tip)\"/></g>\n")
+}
+
+/// What the title of a way from a group to itself says where the group's own stamps go by it, too.
+fn stamps_words(scenario: &Scenario, way: Way) -> &'static str {
+    if way.sender == Sender::Group(way.to) && scenario.stamp_takes_time(way.to, way.to) {
+        ", its own stamps, too"
+    } else {
+        ""
+    }
 }
 
 /// Writes the curve of a way: one from a group to itself is a loop.

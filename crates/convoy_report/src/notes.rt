@@ -55,6 +55,14 @@ pre{white-space:pre-wrap}
 }
 ";
 
+/// What is said before and after the span, where all is asked around targets.
+pub const AROUND_START: &str = "\
+<p>In each row, and in each run, every other message is issued at any time from ";
+
+pub const AROUND_END: &str = " ticks before the message of that row to twice as many after it, \
+whatever the scenario says of issue times: convoy asks so with the option --around.</p>
+";
+
 /// What the table of the survey is.
 pub const SURVEY_NOTE: &str = "\
 Each row is a message at a group that it goes to, and the row * is the message at all its groups. At worst, over all \

@@ -2,14 +2,15 @@ ghost use Rattle.std.specs.Prelude.{◌≡◌, ◌++◌, IfOk, OnOk};
 ghost use Rattle.convoy_budget.specs.Ways.{ways_of};
 ghost use Rattle.convoy_commands.specs.Verdicts.{has_deadline};
 ghost use Rattle.convoy_survey.specs.Surveys.{end_of};
-ghost use Rattle.convoy_report.specs.Pages.{answers_text, page_text, start_text, survey_of, system_of, title_text, verdict_text};
+ghost use Rattle.convoy_report.specs.Pages.{answers_text, around_text, page_text, start_text, survey_of, system_of, title_text, verdict_text};
 
-use super::notes::{CHANGES_NOTE, SURVEY_NOTE};
+use super::notes::{AROUND_END, AROUND_START, CHANGES_NOTE, SURVEY_NOTE};
 use super::pieces::title;
 use super::report::Report;
 use super::sections::{push_end, push_runs, push_start, push_system, push_table, verdict};
 use super::system::{message_table, way_table};
 use convoy_budget::Way;
+use convoy_lines::push_number;
 use convoy_scenario::Scenario;
 use convoy_survey::{Surveyed, end_of, has_deadline, survey_text};
 use convoy_tables::{Format, table_text};
@@ -39,12 +40,13 @@ pub(crate) fn page_of(
     Ok(page)
 }
 
-/// Appends the start of the page, the verdict and the table of the survey.
+/// Appends the start of the page, the verdict, what is asked around targets, and the table of the survey.
 fn push_answers(alloc: Global, report: &Report, out: &mut Vec<u8>) -> Result<(), AllocError>
     ensures { OnOk result (out.new.items ≡ out.old.items ++ answers_text report.now) }
 {
     push_title(alloc, &report.scenario, out)?;
     push_verdict(&report.deadlines, &report.rows, out)?;
+    push_around(report.span, out)?;
     let survey = survey_of(alloc, report)?;
     push_table("Worst cases", SURVEY_NOTE, &survey, out)
 }
@@ -74,6 +76,20 @@ fn push_verdict(
 {
     let verdict = verdict(has_deadline(deadlines), end_of(deadlines, rows));
     out.extend_from_slice(verdict.as_bytes())
+}
+
+/// Appends what is said where all is asked around targets.
+fn push_around(span: Option<u32>, out: &mut Vec<u8>) -> Result<(), AllocError>
+    ensures { OnOk result (out.new.items ≡ out.old.items ++ around_text span) }
+{
+    match span {
+        Some(span) => {
+            out.extend_from_slice(AROUND_START.as_bytes())?;
+            push_number(out, span)?;
+            out.extend_from_slice(AROUND_END.as_bytes())
+        }
+        None => Ok(()),
+    }
 }
 
 /// The table of the survey, with ceilings.

@@ -26,6 +26,8 @@ pub struct Run {
 #[derive(Drop)]
 pub struct Report {
     pub scenario: Scenario,
+    /// By how many ticks all is asked around targets, where it is asked so.
+    pub span: Option<u32>,
     /// The deadlines of the messages by their numbers, in ticks.
     pub deadlines: Vec<Option<u32>>,
     /// How times are told.

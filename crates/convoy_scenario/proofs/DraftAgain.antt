@@ -1,5 +1,5 @@
 -- The draft of a scenario, with names in place of its numbers: it passes the checks, and gives the scenario.
-use Rattle.std.proofs.Common.{◌≡◌, ℕ, pos, ◌+◌, ◌-◌, ◌<◌, ◌≤◌, ◌==◌, ◌&&◌, not, Bool, true, false, leb, le-leb, List, [], ◌∷◌, length, get_or, map, All, Option, Some, None, Ok, eq-eqb, refl, ap, sym, subst, ◌∙◌, arith, inl, inr}
+use Rattle.std.proofs.Common.{◌≡◌, ℕ, pos, ◌+◌, ◌-◌, ◌<◌, ◌≤◌, ◌==◌, ◌&&◌, ◌||◌, not, Bool, true, false, leb, le-leb, List, [], ◌∷◌, length, get_or, map, All, Option, Some, None, Ok, eq-eqb, refl, ap, sym, subst, ◌∙◌, arith, inl, inr}
 use Rattle.std.specs.List.{list_all, list_any, AllByRecursion, IsDistinct}
 use Rattle.std.specs.Str.{bytes_eq}
 use Rattle.std.proofs.lemmas.Bool.{and_parts, and_from, or_cases, cases_order, eqb-true, both_ways, false≢true, not-true, false_from_ne_true}
@@ -31,9 +31,13 @@ sender_again : (plan : Scenario) (s : Sender) → IsDistinct bytes_eq plan.group
 sender_again plan Client distinct is = refl
 sender_again plan (Group g) distinct is = ap (λ n. Group n) (place_again plan.groups g distinct is)
 
+stamps_again : (stamps home : Bool) → (not stamps || home) ≡ true → (stamps && home) ≡ stamps
+stamps_again true home h = h
+stamps_again false home h = refl
+
 link_again : (plan : Scenario) (l : Link) → IsScenario plan → IsLink (length plan.groups) plan.delay l → link_of plan.groups (draft_link plan l) ≡ l
 link_again plan l s is =
-    rw (sender_again plan l.sender s.group_names_differ is.sender, place_again plan.groups l.to s.group_names_differ is.to, ticks_again GREATEST_DELAY l.least (omega (arith, is.ordered, is.high, s.delay_high)), ticks_again GREATEST_DELAY l.most (omega (arith, is.high, s.delay_high))) refl
+    rw (sender_again plan l.sender s.group_names_differ is.sender, place_again plan.groups l.to s.group_names_differ is.to, ticks_again GREATEST_DELAY l.least (omega (arith, is.ordered, is.high, s.delay_high)), ticks_again GREATEST_DELAY l.most (omega (arith, is.high, s.delay_high)), stamps_again l.stamps (is_same_sender l.sender (Group l.to)) is.stamps) refl
 
 pub links_again : (plan : Scenario) (ls : List Link) → IsScenario plan → All (IsLink (length plan.groups) plan.delay) ls → map (link_of plan.groups) (map (draft_link plan) ls) ≡ ls
 links_again plan [] s are = refl

@@ -168,6 +168,11 @@ ranged (negsuc a) most delay within h = absurd (false≢true (and_parts (int_le 
 ranged (pos a) (negsuc b) delay within h = absurd (false≢true (and_parts (leb 1 a) (int_le (pos a) (negsuc b)) (and_parts _ (int_le (negsuc b) delay) h).0).1)
 ranged (pos a) (pos b) (negsuc d) within h = absurd (false≢true within)
 
+at_home : (stamps home : Bool) → (not (stamps && home) || home) ≡ true
+at_home true true = refl
+at_home true false = refl
+at_home false home = refl
+
 link_formed : (draft : Draft) (link : DraftLink) → is_within 1 GREATEST_DELAY draft.delay ≡ true → has_range draft.delay link ≡ true → knows_link draft.groups link ≡ true
     → is_whole (delay_of_draft draft) (link_of draft.groups link) ≡ false → IsLink (length draft.groups) (delay_of_draft draft) (link_of draft.groups link)
 link_formed draft link within range known part =
@@ -180,6 +185,7 @@ link_formed draft link within range known part =
       ordered = ticks.1;
       high = ticks.2;
       partial = ap not part;
+      stamps = at_home link.stamps (is_same_sender (sender_of draft.groups link.sender) (Group (place link.to draft.groups)));
     }
 
 links_formed : (draft : Draft) (links : List DraftLink) → is_within 1 GREATEST_DELAY draft.delay ≡ true → list_all (has_range draft.delay) links ≡ true → list_all (knows_link draft.groups) links ≡ true

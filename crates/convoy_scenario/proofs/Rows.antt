@@ -135,10 +135,10 @@ linked links = record base { links = links }
 
 -- from a client or a group to a group, with a range
 abbrev link : Option (List ℕ) → List ℕ → ℕ → ℕ → DraftLink
-link sender to least most = record { sender = sender; to = to; least = pos least; most = pos most }
+link sender to least most = record { sender = sender; to = to; least = pos least; most = pos most; stamps = false }
 
 links_numbered : scenario_of_draft (linked (link (Some (codes "b")) (codes "a") 1 1 ∷ link (Some (codes "a")) (codes "b") 1 3 ∷ link None (codes "b") 2 3 ∷ [])) ≡ Ok (record base_scenario {
-  links = record { sender = Client; to = 1; least = 2; most = 3 } ∷ record { sender = Group 1; to = 0; least = 1; most = 1 } ∷ [];
+  links = record { sender = Client; to = 1; least = 2; most = 3; stamps = false } ∷ record { sender = Group 1; to = 0; least = 1; most = 1; stamps = false } ∷ [];
 })
 links_numbered = refl
 
@@ -158,14 +158,14 @@ link_to_nowhere : scenario_of_draft (linked (link None (codes "c") 1 2 ∷ [])) 
 link_to_nowhere = refl
 
 -- what a group sends itself takes time by a link to itself alone, which stays also where it has the range of what has no link
-link_to_itself : (takes_time (record base_scenario { links = record { sender = Group 0; to = 0; least = 1; most = 3 } ∷ [] }) (Group 0) 0 ≡ true)
+link_to_itself : (takes_time (record base_scenario { links = record { sender = Group 0; to = 0; least = 1; most = 3; stamps = false } ∷ [] }) (Group 0) 0 ≡ true)
     × (takes_time base_scenario (Group 0) 0 ≡ false)
-    × (in_order 3 (record { sender = Group 0; to = 0; least = 1; most = 3 } ∷ record { sender = Group 0; to = 1; least = 1; most = 3 } ∷ [])
-    ≡ record { sender = Group 0; to = 0; least = 1; most = 3 } ∷ [])
+    × (in_order 3 (record { sender = Group 0; to = 0; least = 1; most = 3; stamps = false } ∷ record { sender = Group 0; to = 1; least = 1; most = 3; stamps = false } ∷ [])
+    ≡ record { sender = Group 0; to = 0; least = 1; most = 3; stamps = false } ∷ [])
 link_to_itself = (refl, refl, refl)
 
-ranges_between : (range_between (record base_scenario { links = record { sender = Client; to = 1; least = 2; most = 3 } ∷ record { sender = Group 1; to = 0; least = 1; most = 1 } ∷ [] }) (Group 1) 0 ≡ (1, 1))
-    × (range_between (record base_scenario { links = record { sender = Client; to = 1; least = 2; most = 3 } ∷ record { sender = Group 1; to = 0; least = 1; most = 1 } ∷ [] }) (Group 0) 1 ≡ (1, 3))
+ranges_between : (range_between (record base_scenario { links = record { sender = Client; to = 1; least = 2; most = 3; stamps = false } ∷ record { sender = Group 1; to = 0; least = 1; most = 1; stamps = false } ∷ [] }) (Group 1) 0 ≡ (1, 1))
+    × (range_between (record base_scenario { links = record { sender = Client; to = 1; least = 2; most = 3; stamps = false } ∷ record { sender = Group 1; to = 0; least = 1; most = 1; stamps = false } ∷ [] }) (Group 0) 1 ≡ (1, 3))
 ranges_between = (refl, refl)
 
 -- a tick in whole ticks, and D above 16 there

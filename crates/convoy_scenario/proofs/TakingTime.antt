@@ -1,25 +1,34 @@
 -- What takes time: all that goes to another place, and what a group sends to itself by a link.
 use Rattle.std.proofs.Common.{◌≡◌, ℕ, ◌==◌, ◌&&◌, ◌||◌, Bool, true, false, not, List, [], ◌∷◌, get_or, None, refl, ap, sym, subst, ◌∙◌, arith, inl, inr}
 use Rattle.std.specs.List.{find, AllByRecursion}
-use Rattle.std.specs.Option.{is_some}
+use Rattle.std.specs.Option.{is_some, option_map_or}
 use Rattle.std.proofs.lemmas.Bool.{and_parts, cases_Bool, eqb-true, eq-eqb}
 use Rattle.convoy_scenario.specs.declared.sender.Sender.{Sender}
 use Rattle.convoy_scenario.specs.declared.sender.Sender.TheVariants.{Client, Group}
 use Rattle.convoy_draft.specs.Checks.{checks, judge}
 use Rattle.convoy_scenario.specs.Numbering.{delay_of_draft, in_order, links_of_draft, scenario_of}
-use Rattle.convoy_scenario.specs.Scenario.{Link, Scenario, is_same_sender, link_between, takes_time}
+use Rattle.convoy_scenario.specs.Scenario.{HaveSameHomes, Link, Scenario, is_same_sender, link_between, stamp_takes_time, takes_time}
 use Rattle.convoy_scenario.specs.ScenarioLaws.{HomesDecideWhatTakesTime, OrderKeepsWhatTakesTime}
 use Rattle.convoy_scenario.specs.WellFormed.{is_whole}
 use Rattle.convoy_scenario.proofs.GivenScenarios.{passed}
 use Rattle.convoy_scenario.proofs.KeptRanges.{AreApart, all_apart, leads, none_apart, none_in_order, one_sender, put_here, put_past}
 use Rattle.convoy_scenario.proofs.NumberedLemmas.{passes}
 
-pub same_takes : HomesDecideWhatTakesTime
-same_takes plan other homes Client to = refl
-same_takes plan other homes (Group g) to = elim (cases_Bool (g == to)) [
-  | inl home ↦ subst (λ (k : ℕ). takes_time other (Group k) to ≡ takes_time plan (Group k) to) (sym (eqb-true g to home)) (homes to)
+same_messages : (plan other : Scenario) → HaveSameHomes plan other → (sender : Sender) (to : ℕ) → takes_time other sender to ≡ takes_time plan sender to
+same_messages plan other homes Client to = refl
+same_messages plan other homes (Group g) to = elim (cases_Bool (g == to)) [
+  | inl home ↦ subst (λ (k : ℕ). takes_time other (Group k) to ≡ takes_time plan (Group k) to) (sym (eqb-true g to home)) (homes.messages to)
   | inr away ↦ rw away refl
 ]
+
+same_stamps : (plan other : Scenario) → HaveSameHomes plan other → (from to : ℕ) → stamp_takes_time other from to ≡ stamp_takes_time plan from to
+same_stamps plan other homes from to = elim (cases_Bool (from == to)) [
+  | inl home ↦ subst (λ (k : ℕ). stamp_takes_time other k to ≡ stamp_takes_time plan k to) (sym (eqb-true from to home)) (homes.stamps to)
+  | inr away ↦ rw away refl
+]
+
+pub same_takes : HomesDecideWhatTakesTime
+same_takes plan other homes = record { messages = same_messages plan other homes; stamps = same_stamps plan other homes }
 
 -- a link from a group to itself is not left out
 not_whole : (delay to : ℕ) (link : Link) → Group to ≡ link.sender → to ≡ link.to → is_whole delay link ≡ false
@@ -51,12 +60,17 @@ home_kept delay to (link ∷ links) distinct =
     ]
 
 pub taking_kept : OrderKeepsWhatTakesTime
-taking_kept draft scenario sender to e =
+taking_kept draft scenario e =
     let p = passed (judge (checks draft)) (scenario_of draft) scenario e in
     let is = passes draft p.0 in
     let apart = all_apart draft.groups draft.links is.links_differ is.ends in
     let given = record scenario { links = links_of_draft draft } in
-    let homes : (g : ℕ) → takes_time scenario (Group g) g ≡ takes_time given (Group g) g = λ g.
-    subst (λ (s : Scenario). takes_time s (Group g) g ≡ takes_time (record s { links = links_of_draft draft }) (Group g) g) p.1
-    (ap (λ found. not (g == g) || is_some found) (home_kept (delay_of_draft draft) g (links_of_draft draft) apart)) in
-    same_takes given scenario homes sender to
+    let kept = λ (g : ℕ). home_kept (delay_of_draft draft) g (links_of_draft draft) apart in
+    same_takes given scenario (record {
+      messages = λ g.
+          subst (λ (s : Scenario). takes_time s (Group g) g ≡ takes_time (record s { links = links_of_draft draft }) (Group g) g) p.1
+          (ap (λ found. not (g == g) || is_some found) (kept g));
+      stamps = λ g.
+          subst (λ (s : Scenario). stamp_takes_time s g g ≡ stamp_takes_time (record s { links = links_of_draft draft }) g g) p.1
+          (ap (λ found. not (g == g) || option_map_or (λ (link : Link). link.stamps) found false) (kept g));
+    })

@@ -33,6 +33,7 @@ draft_link scenario link = record {
   to = group_name_at scenario link.to;
   least = pos link.least;
   most = pos link.most;
+  stamps = link.stamps;
 }
 
 -- a scenario by names: what is written of it

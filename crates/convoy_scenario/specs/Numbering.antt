@@ -1,5 +1,5 @@
 -- The scenario of a draft, with numbers in place of names. Each word here has a value for any draft; only where all the checks hold do they mean what they say.
-use Rattle.std.specs.Prelude.{ℕ, ◌-◌, if◌then◌else◌, List, [], ◌∷◌, map, length, filter, Option, Some, None, unwrap_or, position, Result, Ok, Err}
+use Rattle.std.specs.Prelude.{ℕ, ◌-◌, ◌&&◌, if◌then◌else◌, List, [], ◌∷◌, map, length, filter, Option, Some, None, unwrap_or, position, Result, Ok, Err}
 use Rattle.std.specs.List.{range_with_len}
 use Rattle.std.specs.Result.{result_and}
 use Rattle.std.specs.Str.{bytes_eq}
@@ -11,7 +11,7 @@ use Rattle.convoy_draft.specs.declared.limits.TheConstants.{GREATEST_AT, GREATES
 use Rattle.convoy_scenario.specs.declared.sender.Sender.{Sender}
 use Rattle.convoy_scenario.specs.declared.sender.Sender.TheVariants.{Client, Group}
 use Rattle.convoy_scenario.specs.Room.{has_room}
-use Rattle.convoy_scenario.specs.Scenario.{Link, Message, Scenario}
+use Rattle.convoy_scenario.specs.Scenario.{Link, Message, Scenario, is_same_sender}
 use Rattle.convoy_draft.specs.Draft.{Draft, DraftLink, DraftMessage}
 use Rattle.convoy_draft.specs.Checks.{is_among, ticks, checks, judge}
 use Rattle.convoy_scenario.specs.WellFormed.{is_before, is_whole}
@@ -43,13 +43,14 @@ message_of groups message = record {
   longest_wait = ticks GREATEST_UNTIL message.until - ticks GREATEST_AT message.at;
 }
 
--- a link with numbers
+-- a link with numbers; only one from a group to itself is for stamps, too
 abbrev pub link_of : List (List ℕ) → DraftLink → Link
 link_of groups link = record {
   sender = sender_of groups link.sender;
   to = place link.to groups;
   least = ticks GREATEST_DELAY link.least;
   most = ticks GREATEST_DELAY link.most;
+  stamps = link.stamps && is_same_sender (sender_of groups link.sender) (Group (place link.to groups));
 }
 
 -- a link put among others that ascend; of two between the same places the one that is there stays

@@ -1,5 +1,5 @@
 -- What a scenario says, as plain data: groups and messages go by number, from 0, in the order of the text.
-use Rattle.std.specs.Prelude.{ℕ, ◌+◌, nat_lt, Bool, true, false, ◌==◌, ◌&&◌, ◌||◌, not, List, [], length, find, slice_index_or, Option, IsTrue}
+use Rattle.std.specs.Prelude.{◌≡◌, ℕ, ◌+◌, nat_lt, Bool, true, false, ◌==◌, ◌&&◌, ◌||◌, not, List, [], length, find, slice_index_or, Option, IsTrue}
 use Rattle.std.specs.List.{list_any, range_with_len}
 use Rattle.std.specs.Option.{is_some, option_map_or}
 use Rattle.convoy_scenario.specs.declared.sender.Sender.{Sender}
@@ -15,12 +15,13 @@ pub record Message : Type 0 where
   pub at : ℕ
   pub longest_wait : ℕ
 
--- a link: what goes from the sender to the group takes a number of ticks from the least to the most
+-- a link: what goes from the sender to the group takes a number of ticks from the least to the most. From a group to itself go the messages that it sends to itself, and where the link is for stamps its own stamps, too
 pub record Link : Type 0 where
   pub sender : Sender
   pub to : ℕ
   pub least : ℕ
   pub most : ℕ
+  pub stamps : Bool
 
 -- a scenario: how time goes in it, how many nanoseconds a tick lasts where that is known, D, the groups' names, the links but for those between two places whose range is 1 to D, the messages, and the message and the group of which the latency is asked
 pub record Scenario : Type 0 where
@@ -49,12 +50,16 @@ may_wait message = nat_lt 0 message.longest_wait
 abbrev pub window_of : Message → ℕ × ℕ
 window_of message = (message.at, message.at + message.longest_wait)
 
--- time is real, or some message may wait: lines that tell such a scenario say how time goes
+-- some group's own stamps take time, by its link to itself
+abbrev pub has_own_stamps : Scenario → Bool
+has_own_stamps scenario = list_any (λ link. link.stamps) scenario.links
+
+-- time is real, or some message may wait, or some group's own stamps take time: lines that tell such a scenario say how time goes
 abbrev pub is_timed : Scenario → Bool
 is_timed scenario = by_time scenario.time where
   by_time : Time → Bool
   by_time Real = true
-  by_time Ticks = list_any may_wait scenario.multicasts
+  by_time Ticks = list_any may_wait scenario.multicasts || has_own_stamps scenario
 
 -- the name of the group of that number
 abbrev pub group_name_at : Scenario → ℕ → List ℕ
@@ -63,13 +68,6 @@ group_name_at scenario g = slice_index_or scenario.groups g []
 -- the numbers of the messages
 abbrev pub message_numbers : Scenario → List ℕ
 message_numbers scenario = range_with_len 0 (length scenario.multicasts)
-
--- the group sends the message itself
-abbrev pub is_sent_by : Message → ℕ → Bool
-is_sent_by message g = is_group message.sender g where
-  is_group : Sender → ℕ → Bool
-  is_group Client h = false
-  is_group (Group n) h = n == h
 
 -- the message goes to the group
 abbrev pub is_addressed : Message → ℕ → Bool
@@ -93,6 +91,25 @@ link_between links sender to = find (λ link. is_same_sender sender link.sender 
 -- what the one sends to the other takes time: they are two places, or a group has a link to itself
 abbrev pub takes_time : Scenario → Sender → ℕ → Bool
 takes_time scenario sender to = not (is_same_sender sender (Group to)) || is_some (link_between scenario.links sender to)
+
+-- the stamp that the one group proposes takes time on its way to the other: they are two, or the group has a link to itself that is for stamps, too
+abbrev pub stamp_takes_time : Scenario → ℕ → ℕ → Bool
+stamp_takes_time scenario from to = not (from == to) || option_map_or (λ link. link.stamps) (link_between scenario.links (Group from) to) false
+
+-- the sender is the group itself, and the stamps that it proposes to itself take time
+abbrev pub own_stamps_take_time : Scenario → Sender → ℕ → Bool
+own_stamps_take_time scenario Client to = false
+own_stamps_take_time scenario (Group g) to = (g == to) && stamp_takes_time scenario g to
+
+-- the same takes time in both scenarios
+pub record TakeTimeAlike (scenario other : Scenario) : Type 0 where
+  pub messages : (sender : Sender) (to : ℕ) → takes_time other sender to ≡ takes_time scenario sender to
+  pub stamps : (from to : ℕ) → stamp_takes_time other from to ≡ stamp_takes_time scenario from to
+
+-- the same groups have links to themselves, for messages alone or for stamps, too
+pub record HaveSameHomes (scenario other : Scenario) : Type 0 where
+  pub messages : (g : ℕ) → takes_time other (Group g) g ≡ takes_time scenario (Group g) g
+  pub stamps : (g : ℕ) → stamp_takes_time other g g ≡ stamp_takes_time scenario g g
 
 -- the least and the greatest delay of what goes from the one to the other: those of their link, or 1 and D
 abbrev pub range_between : Scenario → Sender → ℕ → ℕ × ℕ

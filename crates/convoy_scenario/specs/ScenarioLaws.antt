@@ -8,8 +8,7 @@ use Rattle.convoy_draft.specs.Draft.{Draft}
 use Rattle.convoy_scenario.specs.Naming.{draft_for}
 use Rattle.convoy_scenario.specs.Numbering.{in_order, links_of_draft, place, scenario_of_draft}
 use Rattle.convoy_scenario.specs.declared.sender.Sender.{Sender}
-use Rattle.convoy_scenario.specs.declared.sender.Sender.TheVariants.{Group}
-use Rattle.convoy_scenario.specs.Scenario.{Link, Scenario, group_name_at, message_at, range_between, takes_time}
+use Rattle.convoy_scenario.specs.Scenario.{HaveSameHomes, Link, Scenario, TakeTimeAlike, group_name_at, message_at, range_between}
 use Rattle.convoy_scenario.specs.WellFormed.{IsScenario, ascend_after, is_whole}
 
 -- what is made of a draft is a well-formed scenario
@@ -66,11 +65,9 @@ OrderKeepsRanges =
 -- .. nor does it change what takes time: a link from a group to itself is never left out
 abbrev pub OrderKeepsWhatTakesTime : Type 0
 OrderKeepsWhatTakesTime =
-    (draft : Draft) (scenario : Scenario) (sender : Sender) (to : ℕ) → scenario_of_draft draft ≡ Ok scenario
-    → takes_time scenario sender to ≡ takes_time (record scenario { links = links_of_draft draft }) sender to
+    (draft : Draft) (scenario : Scenario) → scenario_of_draft draft ≡ Ok scenario
+    → TakeTimeAlike (record scenario { links = links_of_draft draft }) scenario
 
 -- What a place sends to another one takes time; so two scenarios in which the same groups have links to themselves agree in what takes time.
 abbrev pub HomesDecideWhatTakesTime : Type 0
-HomesDecideWhatTakesTime =
-    (scenario other : Scenario) → ((g : ℕ) → takes_time other (Group g) g ≡ takes_time scenario (Group g) g)
-    → (sender : Sender) (to : ℕ) → takes_time other sender to ≡ takes_time scenario sender to
+HomesDecideWhatTakesTime = (scenario other : Scenario) → HaveSameHomes scenario other → TakeTimeAlike scenario other

@@ -31,7 +31,7 @@ pub record IsMulticast (groups : ℕ) (message : Message) : Type 0 where
 abbrev pub is_whole : ℕ → Link → Bool
 is_whole delay link = (link.least == 1) && (link.most == delay) && not (is_same_sender link.sender (Group link.to))
 
--- a link among so many groups, where D is so much: from a client or a group to a group, itself perhaps, with a range within 1 to D, which to another place is not the whole of it
+-- a link among so many groups, where D is so much: from a client or a group to a group, itself perhaps, with a range within 1 to D, which to another place is not the whole of it; only one from a group to itself is for stamps, too
 pub record IsLink (groups delay : ℕ) (link : Link) : Type 0 where
   pub sender : IsSender groups link.sender
   pub to : link.to < groups
@@ -39,6 +39,7 @@ pub record IsLink (groups delay : ℕ) (link : Link) : Type 0 where
   pub ordered : link.least ≤ link.most
   pub high : link.most ≤ delay
   pub partial : IsTrue (not (is_whole delay link))
+  pub stamps : IsTrue (not link.stamps || is_same_sender link.sender (Group link.to))
 
 -- the place of a sender in the order of links: a client comes first, and then the groups by number
 abbrev pub sender_place : Sender → ℕ

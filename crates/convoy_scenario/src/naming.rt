@@ -100,6 +100,7 @@ pub fn draft_link(alloc: Global, scenario: &Scenario, link: Link) -> Result<Draf
         to: draft_group(alloc, scenario, link.to)?,
         least: i64::from(link.least),
         most: i64::from(link.most),
+        stamps: link.stamps,
     })
 }
 

@@ -43,6 +43,8 @@ pub struct LinkParts<'a> {
     pub least: u32,
     /// The greatest delay, in ticks.
     pub most: u32,
+    /// Of a link from a group to itself: whether the group's own stamps go by it, too.
+    pub stamps: bool,
 }
 
 impl<'a> Model for LinkParts<'a> {
@@ -56,6 +58,7 @@ impl<'a> Model for LinkParts<'a> {
       to = l.to.now;
       least = pos l.least;
       most = pos l.most;
+      stamps = l.stamps;
     } };
 }
 
@@ -146,6 +149,7 @@ fn links_of(alloc: Global, parts: &[LinkParts]) -> Result<Vec<DraftLink>, AllocE
             to: Name::new(alloc, link.to)?,
             least: i64::from(link.least),
             most: i64::from(link.most),
+            stamps: link.stamps,
         })?;
     }
     Ok(links)

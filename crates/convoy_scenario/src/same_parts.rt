@@ -72,6 +72,7 @@ fn is_same_link(link: Link, other: Link) -> bool
         && other.to == link.to
         && other.least == link.least
         && other.most == link.most
+        && other.stamps == link.stamps
 }
 
 /// Whether the messages are the same, in the same order.

@@ -1,7 +1,8 @@
-ghost use Rattle.std.specs.Prelude.{◌≡◌, ◌<◌, ℕ, length, IfOk, IsTrue};
+ghost use Rattle.std.specs.Prelude.{◌≡◌, ◌<◌, ℕ, false, length, option_copied, IfOk, IsTrue};
 ghost use Rattle.std.specs.List.{list_any};
+ghost use Rattle.std.specs.Option.{option_map_or};
 ghost use Rattle.convoy_scenario.specs.Room.{HasRoom};
-ghost use Rattle.convoy_scenario.specs.Scenario.{GoesTo, message_at, may_wait, is_timed, group_name_at, range_between, takes_time, Message, Scenario};
+ghost use Rattle.convoy_scenario.specs.Scenario.{GoesTo, message_at, may_wait, is_timed, group_name_at, range_between, own_stamps_take_time, stamp_takes_time, takes_time, Link, Message, Scenario};
 ghost use Rattle.convoy_scenario.specs.Targets.{may_be_target, with_target};
 ghost use Rattle.convoy_scenario.specs.WellFormed.{IsScenario};
 ghost use Rattle.convoy_scenario.specs.Widened.{target_wait, widened, widened_message};
@@ -246,15 +247,15 @@ impl Scenario {
         self.tick
     }
 
-    /// Whether time is real, or some message may wait: then lines that tell the scenario say how time
-    /// goes (docs/FORMATS.md, "Certificate text").
+    /// Whether time is real, or some message may wait, or some group's own stamps take time: then lines that tell the
+    /// scenario say how time goes (docs/FORMATS.md, "Certificate text").
     pub fn is_timed(&self) -> bool
         ensures value { result ≡ is_timed self.now }
         ensures lawful { IsScenario self.now }
     {
         match self.time {
             Time::Real => true,
-            Time::Ticks => some_may_wait(&self.multicasts),
+            Time::Ticks => some_may_wait(&self.multicasts) || some_are_for_stamps(&self.links),
         }
     }
 
@@ -304,6 +305,25 @@ impl Scenario {
         ensures { result ≡ takes_time self.now sender to }
     {
         sender != Sender::Group(to) || link_between(&self.links, sender, to).is_some()
+    }
+
+    /// Whether the stamp that the group `from` proposes takes time on its way to the group `to`: they are two, or the group
+    /// has a link to itself that is for stamps, too.
+    pub fn stamp_takes_time(&self, from: usize, to: usize) -> bool
+        ensures { result ≡ stamp_takes_time self.now from to }
+    {
+        from != to || carries_stamps(link_between(&self.links, Sender::Group(from), to))
+    }
+
+    /// Whether a sender is the group `to` itself, and the stamps that the group proposes to itself take time. So a link from
+    /// the one to the other says of stamps what this scenario does.
+    pub fn own_stamps_take_time(&self, sender: Sender, to: usize) -> bool
+        ensures { result ≡ own_stamps_take_time self.now sender to }
+    {
+        match sender {
+            Sender::Client => false,
+            Sender::Group(group) => group == to && self.stamp_takes_time(group, to),
+        }
     }
 
     /// The least and the greatest delay, in ticks, of what goes from a sender to the group `to`.
@@ -419,4 +439,21 @@ fn copy_multicasts(alloc: Global, multicasts: &[Multicast]) -> Result<Vec<Multic
         copies.push(multicast.copy()?)?;
     }
     Ok(copies)
+}
+
+/// Whether one of the links is for the own stamps of a group, too.
+fn some_are_for_stamps(links: &[Link]) -> bool
+    ensures { result ≡ list_any (λ (l : Link). l.stamps) links.now }
+{
+    links.iter().any(|link| link.stamps)
+}
+
+/// Whether there is a link, and it is for the own stamps of a group, too.
+fn carries_stamps(link: Option<&Link>) -> bool
+    ensures { result ≡ option_map_or (λ (l : Link). l.stamps) (option_copied link.entry) false }
+{
+    match link {
+        Some(link) => link.stamps,
+        None => false,
+    }
 }

@@ -1,18 +1,20 @@
 -- The forms of lines: what is read was written so, and what is written is read again.
-use Rattle.std.proofs.Common.{◌≡◌, ℕ, pos, ◌+◌, ◌<◌, ◌==◌, cond, leb, List, [], ◌∷◌, length, map, Option, Some, None, refl, ap, sym, subst, ◌∙◌, arith, inl, inr, codes, decimal}
+use Rattle.std.proofs.Common.{◌≡◌, ℕ, pos, ◌+◌, ◌<◌, ◌==◌, ◌&&◌, Bool, false, cond, leb, List, [], ◌∷◌, length, map, Option, Some, None, refl, ap, sym, subst, ◌∙◌, arith, inl, inr, codes, decimal}
 use Rattle.std.specs.List.{AllByRecursion}
 use Rattle.std.specs.Str.{is_utf8}
 use Rattle.std.proofs.lemmas.Bool.{cases_Bool, eqb-true}
 use Rattle.std.proofs.lemmas.List.{nil_from_length}
 use Rattle.std.proofs.lemmas.Option.{cond_some, same_Some}
+use Rattle.convoy_draft.specs.Checks.{leads_elsewhere}
 use Rattle.convoy_draft.specs.Draft.{DraftLink, DraftMessage}
 use Rattle.convoy_lines.specs.Words.{next_word, number_of}
 use Rattle.convoy_lines.specs.Chains.{◌>>=◌}
 use Rattle.convoy_lines.specs.Labels.{words_after}
 use Rattle.convoy_scenario_lines.specs.declared.version.Version.{Version}
-use Rattle.convoy_scenario_lines.specs.LineForms.{name_of, named_sender, greatest_delay_number, groups_in, link_in, issue_in, multicast_in, target_in}
-use Rattle.convoy_scenario_lines.specs.ScenarioLines.{issue_word}
+use Rattle.convoy_scenario_lines.specs.LineForms.{name_of, named_sender, greatest_delay_number, groups_in, stamps_in, where_stamps_stay, link_in, issue_in, multicast_in, target_in}
+use Rattle.convoy_scenario_lines.specs.ScenarioLines.{issue_word, stamps_words}
 use Rattle.convoy_scenario_lines.proofs.Issues.{CanWait, issue_takes}
+use Rattle.convoy_scenario_lines.proofs.OwnStamps.{CanHaveStamps, stamps_take, stays}
 use Rattle.convoy_lines.specs.Texts.{line_of}
 use Rattle.convoy_lines.proofs.LabelLemmas.{bind_some, label_takes}
 use Rattle.convoy_lines.proofs.Spelling.{number_takes}
@@ -43,14 +45,21 @@ pub record Says (version : Version) (line : List ℕ) (message : DraftMessage) :
   pub said : message ≡ record { name = name_of name; sender = named_sender from; to = map name_of to; at = pos tick; until = pos (tick + wait) }
   pub can : CanWait version wait
 
+-- the link from one place to another, by their words
+abbrev link_from_to : List ℕ → List ℕ → ℕ → ℕ → Bool → DraftLink
+link_from_to from to low high stamps = record { sender = named_sender from; to = name_of to; least = pos low; most = pos high; stamps = stamps }
+
 -- what a line `link` says
-pub record SaysLink (line : List ℕ) (link : DraftLink) : Type 0 where
+pub record SaysLink (version : Version) (line : List ℕ) (link : DraftLink) : Type 0 where
   pub from : List ℕ
   pub to : List ℕ
   pub low : ℕ
   pub high : ℕ
-  pub written : line ≡ line_of (codes "link") (from ∷ to ∷ decimal low ∷ decimal high ∷ [])
-  pub said : link ≡ record { sender = named_sender from; to = name_of to; least = pos low; most = pos high }
+  pub stamps : Bool
+  pub written : line ≡ line_of (codes "link") (from ∷ to ∷ decimal low ∷ decimal high ∷ stamps_words stamps)
+  pub said : link ≡ link_from_to from to low high stamps
+  pub can : CanHaveStamps version stamps
+  pub home : (link.stamps && leads_elsewhere link) ≡ false
 
 pub groups_take : (line : List ℕ) (groups : List (List ℕ)) → groups_in line ≡ Some groups → AllByRecursion (λ name. 0 < length name) groups → line ≡ line_of (codes "groups") groups
 groups_take line groups e some =
@@ -59,24 +68,25 @@ groups_take line groups e some =
     let same : a.0 ≡ groups = names_take a.0 (subst (AllByRecursion (λ name. 0 < length name)) (sym g.1) some) ∙ g.1 in
     label_takes (codes "groups") line a.0 a.1 ∙ ap (line_of (codes "groups")) same
 
--- the link of these words, if no word is left
-abbrev link_at_end : List ℕ → List ℕ → ℕ → List (List ℕ) → ℕ → Option DraftLink
-link_at_end from to low left high = cond (length left == 0) (Some (record { sender = named_sender from; to = name_of to; least = pos low; most = pos high })) None
+-- the link of these words, by those that are left
+abbrev link_at_end : Version → List ℕ → List ℕ → ℕ → List (List ℕ) → ℕ → Option DraftLink
+link_at_end version from to low left high = stamps_in version left >>= λ stamps. where_stamps_stay (link_from_to from to low high stamps)
 
-abbrev words_link : List (List ℕ) → Option DraftLink
-words_link words = next_word words >>= λ from. next_word from.1 >>= λ to. next_word to.1 >>= λ least. next_word least.1 >>= λ most.
-    number_of greatest_delay_number least.0 >>= λ low. number_of greatest_delay_number most.0 >>= λ high. link_at_end from.0 to.0 low most.1 high
+abbrev words_link : Version → List (List ℕ) → Option DraftLink
+words_link version words = next_word words >>= λ from. next_word from.1 >>= λ to. next_word to.1 >>= λ least. next_word least.1 >>= λ most.
+    number_of greatest_delay_number least.0 >>= λ low. number_of greatest_delay_number most.0 >>= λ high. link_at_end version from.0 to.0 low most.1 high
 
-link_said : (words : List (List ℕ)) (link : DraftLink) → words_link words ≡ Some link → SaysLink (line_of (codes "link") words) link
-link_said [] link e = absurd cc
-link_said (from ∷ []) link e = absurd cc
-link_said (from ∷ to ∷ []) link e = absurd cc
-link_said (from ∷ to ∷ least ∷ []) link e = absurd cc
-link_said (from ∷ to ∷ least ∷ most ∷ left) link e =
-    let a = bind_some (number_of greatest_delay_number least) (λ low. number_of greatest_delay_number most >>= link_at_end from to low left) link e in
-    let b = bind_some (number_of greatest_delay_number most) (link_at_end from to a.0 left) link a.2 in
-    let c = cond_some (length left == 0) (record { sender = named_sender from; to = name_of to; least = pos a.0; most = pos b.0 }) link b.2 in
-    let last : left ≡ [] = nil_from_length left (eqb-true _ _ c.0) in
+link_said : (version : Version) (words : List (List ℕ)) (link : DraftLink) → words_link version words ≡ Some link → SaysLink version (line_of (codes "link") words) link
+link_said version [] link e = absurd cc
+link_said version (from ∷ []) link e = absurd cc
+link_said version (from ∷ to ∷ []) link e = absurd cc
+link_said version (from ∷ to ∷ least ∷ []) link e = absurd cc
+link_said version (from ∷ to ∷ least ∷ most ∷ left) link e =
+    let a = bind_some (number_of greatest_delay_number least) (λ low. number_of greatest_delay_number most >>= link_at_end version from to low left) link e in
+    let b = bind_some (number_of greatest_delay_number most) (link_at_end version from to a.0 left) link a.2 in
+    let c = bind_some (stamps_in version left) (λ stamps. where_stamps_stay (link_from_to from to a.0 b.0 stamps)) link b.2 in
+    let last = stamps_take version left c.0 c.1 in
+    let home = stays (link_from_to from to a.0 b.0 c.0) link c.2 in
     let low = number_takes greatest_delay_number least a.0 (omega arith) a.1 in
     let high = number_takes greatest_delay_number most b.0 (omega arith) b.1 in
     record {
@@ -84,15 +94,18 @@ link_said (from ∷ to ∷ least ∷ most ∷ left) link e =
       to = to;
       low = a.0;
       high = b.0;
+      stamps = c.0;
       written = ap (λ w. line_of (codes "link") (from ∷ to ∷ w ∷ most ∷ left)) low.0 ∙ ap (λ w. line_of (codes "link") (from ∷ to ∷ decimal a.0 ∷ w ∷ left)) high.0
-          ∙ ap (λ ws. line_of (codes "link") (from ∷ to ∷ decimal a.0 ∷ decimal b.0 ∷ ws)) last;
-      said = sym c.1;
+          ∙ ap (λ ws. line_of (codes "link") (from ∷ to ∷ decimal a.0 ∷ decimal b.0 ∷ ws)) last.0;
+      said = sym home.1;
+      can = last.1;
+      home = home.0;
     }
 
-pub link_takes : (line : List ℕ) (link : DraftLink) → link_in line ≡ Some link → SaysLink line link
-link_takes line link e =
-    let a = bind_some (words_after (codes "link") line) words_link link e in
-    subst (λ l. SaysLink l link) (sym (label_takes (codes "link") line a.0 a.1)) (link_said a.0 link a.2)
+pub link_takes : (version : Version) (line : List ℕ) (link : DraftLink) → link_in version line ≡ Some link → SaysLink version line link
+link_takes version line link e =
+    let a = bind_some (words_after (codes "link") line) (words_link version) link e in
+    subst (λ l. SaysLink version l link) (sym (label_takes (codes "link") line a.0 a.1)) (link_said version a.0 link a.2)
 
 -- the message of these words, from one tick to another
 abbrev message_from_to : List ℕ → List ℕ → List (List ℕ) → ℕ × ℕ → DraftMessage

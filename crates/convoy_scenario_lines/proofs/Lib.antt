@@ -1,4 +1,5 @@
 pub mod LinkOrder
+pub mod LinkRows
 pub mod Links
 pub mod KeptNames
 pub mod KeptLines
@@ -7,5 +8,6 @@ pub mod Texts
 pub mod FormLaws
 pub mod TickLines
 pub mod Issues
+pub mod OwnStamps
 pub mod ScenarioTakes
 pub mod ScenarioAgain

@@ -20,15 +20,15 @@ abbrev pub with_next : Version → ℕ → DraftLink × Place → Result (List D
 with_next version count next = (if count == MOST_LINKS then Err (faults.Scenario (OverLimit limit.Link)) else links_at version (count + 1) next.1) >>= λ more. Ok (next.0 ∷ more.0, more.1)
 
 unfolds : (version : Version) (count number : ℕ) (rest : List ℕ) (ended : List (List ℕ)) → is_link_due version (upcoming (record { ended = ended; rest = rest; number = number })) ≡ true
-    → links_in version count number rest ended ≡ (form_at Link link_in (record { ended = ended; rest = rest; number = number }) >>= with_next version count)
+    → links_in version count number rest ended ≡ (form_at Link (link_in version) (record { ended = ended; rest = rest; number = number }) >>= with_next version count)
 unfolding links_in
 unfolds version count number rest [] come = rw come refl
 unfolds version count number rest (line ∷ lines) come =
-    rw come (elim (link_in line) as (λ m. (ok_or m (faults.Line number Link) >>= λ link. (if count == MOST_LINKS then Err (faults.Scenario (OverLimit limit.Link)) else links_in version (count + 1) (number + 1) rest lines) >>= λ more. Ok (link ∷ more.0, more.1))
+    rw come (elim (link_in version line) as (λ m. (ok_or m (faults.Line number Link) >>= λ link. (if count == MOST_LINKS then Err (faults.Scenario (OverLimit limit.Link)) else links_in version (count + 1) (number + 1) rest lines) >>= λ more. Ok (link ∷ more.0, more.1))
     ≡ ((ok_or m (faults.Line number Link) >>= λ value. Ok (value, record { ended = lines; rest = rest; number = number + 1 })) >>= with_next version count)) [ None ↦ refl | Some m ↦ refl ])
 
 -- a line that is to come is read
-pub one_more : (version : Version) (count : ℕ) (p : Place) → is_link_due version (upcoming p) ≡ true → links_at version count p ≡ (form_at Link link_in p >>= with_next version count)
+pub one_more : (version : Version) (count : ℕ) (p : Place) → is_link_due version (upcoming p) ≡ true → links_at version count p ≡ (form_at Link (link_in version) p >>= with_next version count)
 one_more version count p come = unfolds version count p.number p.rest p.ended come
 
 -- no line is to come
@@ -50,7 +50,7 @@ regroup front m (Ok x) = ap (λ (ms : List DraftLink). Ok (ms, x.1)) (sym (appen
 regroup front m (Err e) = refl
 
 pub faulty : (front : List DraftLink) (version : Version) (count : ℕ) (p : Place) (total : Result (List DraftLink × Place) LineFault) (fault : LineFault) → is_link_due version (upcoming p) ≡ true
-    → IsUnlessMemory faults.Memory (form_at Link link_in p) (Err fault) → with_front front (links_at version count p) ≡ total → IsUnlessMemory faults.Memory total (Err fault)
+    → IsUnlessMemory faults.Memory (form_at Link (link_in version) p) (Err fault) → with_front front (links_at version count p) ≡ total → IsUnlessMemory faults.Memory total (Err fault)
 faulty front version count p total fault due (inl e) so_far =
     let step : Result (DraftLink × Place) LineFault → Result (List DraftLink × Place) LineFault = λ r. with_front front (r >>= with_next version count) in
     let all : step (Err fault) ≡ total = ap step e ∙ sym (ap (with_front front) (one_more version count p due)) ∙ so_far in
@@ -58,7 +58,7 @@ faulty front version count p total fault due (inl e) so_far =
 faulty front version count p total fault due (inr e) so_far = let same : fault ≡ faults.Memory = cc in inr (ap (λ (f : LineFault). Err f) same)
 
 pub too_many : (front : List DraftLink) (version : Version) (count : ℕ) (p : Place) (total : Result (List DraftLink × Place) LineFault) (next : DraftLink × Place) → is_link_due version (upcoming p) ≡ true
-    → IsUnlessMemory faults.Memory (form_at Link link_in p) (Ok next) → (count == MOST_LINKS) ≡ true → with_front front (links_at version count p) ≡ total
+    → IsUnlessMemory faults.Memory (form_at Link (link_in version) p) (Ok next) → (count == MOST_LINKS) ≡ true → with_front front (links_at version count p) ≡ total
     → IsUnlessMemory faults.Memory total (Err (faults.Scenario (OverLimit limit.Link)))
 too_many front version count p total next due (inl e) many so_far =
     let over : with_front front (with_next version count next) ≡ Err (faults.Scenario (OverLimit limit.Link)) = rw many refl in
@@ -67,7 +67,7 @@ too_many front version count p total next due (inl e) many so_far =
 too_many front version count p total next due (inr e) many so_far = absurd cc
 
 pub goes_on : (front : List DraftLink) (version : Version) (count : ℕ) (p : Place) (total : Result (List DraftLink × Place) LineFault) (next : DraftLink × Place) → is_link_due version (upcoming p) ≡ true
-    → IsUnlessMemory faults.Memory (form_at Link link_in p) (Ok next) → (count == MOST_LINKS) ≡ false → with_front front (links_at version count p) ≡ total
+    → IsUnlessMemory faults.Memory (form_at Link (link_in version) p) (Ok next) → (count == MOST_LINKS) ≡ false → with_front front (links_at version count p) ≡ total
     → with_front (front ++ next.0 ∷ []) (links_at version (count + 1) next.1) ≡ total
 goes_on front version count p total next due (inl e) few so_far =
     let within : with_next version count next ≡ (links_at version (count + 1) next.1 >>= λ more. Ok (next.0 ∷ more.0, more.1)) = rw few refl in

@@ -19,16 +19,16 @@ use Rattle.convoy_draft.specs.declared.time.Time.TheVariants.{Ticks, Real}
 use Rattle.convoy_scenario.specs.declared.sender.Sender.{Sender}
 use Rattle.convoy_scenario.specs.declared.sender.Sender.TheVariants.{Client, Group}
 use Rattle.convoy_scenario.specs.Scenario as plans
-use Rattle.convoy_scenario.specs.Scenario.{Scenario, Message, message_at, may_wait, is_timed, group_name_at, no_message}
+use Rattle.convoy_scenario.specs.Scenario.{Scenario, Message, message_at, may_wait, has_own_stamps, is_timed, group_name_at, no_message}
 use Rattle.convoy_scenario.specs.WellFormed.{IsSender, IsLink, IsMulticast, IsScenario}
 use Rattle.convoy_draft.specs.Names.{is_letter, is_digit, is_name_byte, is_name, is_group_name, client_word}
 use Rattle.convoy_draft.specs.Limits.{is_tick}
 use Rattle.convoy_draft.specs.Checks.{is_among}
-use Rattle.convoy_scenario_lines.specs.ScenarioLineLaws.{CanSayTime, CanSayLinks, CanSay}
+use Rattle.convoy_scenario_lines.specs.ScenarioLineLaws.{CanSayTime, CanSay}
 use Rattle.convoy_draft.specs.Durations.{count_of, unit_of, unit_word}
 use Rattle.convoy_draft.specs.declared.duration.TheConstants.{LONGEST_DURATION, MOST_UNITS}
 use Rattle.convoy_scenario.specs.Numbering.{delay_of_draft, message_of, numbers_of, scenario_of, scenario_of_draft}
-use Rattle.convoy_scenario_lines.specs.ScenarioLines.{time_lines, issue_word, tick_line, tick_lines, lines_from_delay, delay_line, groups_line, link_line, multicast_line, target_line, scenario_lines}
+use Rattle.convoy_scenario_lines.specs.ScenarioLines.{time_lines, issue_word, tick_line, tick_lines, lines_from_delay, delay_line, groups_line, link_line, stamps_words, multicast_line, target_line, scenario_lines}
 use Rattle.convoy_lines.specs.Labels.{begins_with, number_in}
 use Rattle.convoy_scenario_lines.specs.LineForms.{name_of, named_sender, greatest_delay_number, groups_in, link_in, multicast_in, target_in}
 use Rattle.convoy_lines.specs.Words.{Lacks, words_of}
@@ -39,6 +39,7 @@ use Rattle.convoy_scenario.specs.Naming.{draft_for, draft_link, draft_message, s
 use Rattle.convoy_scenario.proofs.DraftAgain.{group_known, links_again, made_again}
 use Rattle.convoy_scenario.proofs.FewLinks.{few_links}
 use Rattle.convoy_scenario_lines.proofs.Issues.{CanWait, known_again, issue_is_word}
+use Rattle.convoy_scenario_lines.proofs.OwnStamps.{CanHaveStamps, any_stamps, each_without, home_again, stamps_again, stamps_are_words}
 use Rattle.convoy_scenario_lines.proofs.LinkOrder.{none_misplaced}
 use Rattle.convoy_scenario_lines.proofs.Links.{no_more}
 use Rattle.convoy_scenario_lines.proofs.TickLines.{tick_words, tick_again}
@@ -88,7 +89,7 @@ name_word name e =
     let b = name_bytes name e in
     record { some = b.0; spaceless = bytes_lack 32 name (omega arith) b.1; endless = bytes_lack 10 name (omega arith) b.1 }
 
-name_again : (name : List ℕ) → is_name name ≡ true → name_of name ≡ name
+pub name_again : (name : List ℕ) → is_name name ≡ true → name_of name ≡ name
 name_again name e =
     let utf8 = is_utf8-from_IsUtf8 name (IsUtf8-from_ascii name (bytes_ascii name (name_bytes name e).1)) in
     rw utf8 refl
@@ -128,9 +129,12 @@ long Real tick e =
     let q = and_parts (leb 1 tick) (leb tick LONGEST_DURATION) p.0 in
     record { real = refl; some = leb-true 1 tick q.0; short = leb-true tick LONGEST_DURATION q.1; few = leb-true (count_of tick) MOST_UNITS p.1 }
 
--- a scenario of which nothing says how time goes is in whole ticks, and no message may wait
-untimed : (plan : Scenario) (time : Time) → plan.time ≡ time → is_timed plan ≡ false → (time ≡ Ticks) × (list_any may_wait plan.multicasts ≡ false)
-untimed plan Ticks is e = let none : list_any may_wait plan.multicasts ≡ false = rw is at e in (refl, none)
+-- a scenario of which nothing says how time goes is in whole ticks, no message may wait, and no link is for stamps, too
+untimed : (plan : Scenario) (time : Time) → plan.time ≡ time → is_timed plan ≡ false → (time ≡ Ticks) × (list_any may_wait plan.multicasts ≡ false) × (has_own_stamps plan ≡ false)
+untimed plan Ticks is e =
+    let none : (list_any may_wait plan.multicasts || has_own_stamps plan) ≡ false = rw is at e in
+    let parts = or_parts (list_any may_wait plan.multicasts) (has_own_stamps plan) none in
+    (refl, parts.0, parts.1)
 untimed plan Real is e = let no : true ≡ false = rw is at e in absurd cc
 
 says_time : (version : Version) (plan : Scenario) → CanSayTime version plan → SaysTime version plan.time
@@ -155,6 +159,11 @@ can_wait One plan can = each_stays plan.multicasts (untimed plan plan.time refl 
 can_wait Two plan can = each_stays plan.multicasts (untimed plan plan.time refl can).1
 can_wait Three plan can = any_waits plan.multicasts
 
+can_have_stamps : (version : Version) (plan : Scenario) → CanSayTime version plan → AllByRecursion (λ l. CanHaveStamps version l.stamps) plan.links
+can_have_stamps One plan can = each_without plan.links (untimed plan plan.time refl can).2
+can_have_stamps Two plan can = each_without plan.links (untimed plan plan.time refl can).2
+can_have_stamps Three plan can = any_stamps plan.links
+
 delay_again : (plan : Scenario) → IsScenario plan → number_in (codes "delay") (delay_line plan) ≡ Some plan.delay
 delay_again plan s = number_line_again (codes "delay") plan.delay (known_word (codes "delay") refl) (omega (arith, s.delay_high))
 
@@ -169,18 +178,18 @@ sender_is plan (Group g) all is =
     let n = group_name (group_name_at plan g) (All-get_or (λ name. is_group_name name ≡ true) plan.groups g [] is all) in
     (name_word (group_name_at plan g) n.0, rw (n.1, name_again (group_name_at plan g) n.0) refl)
 
-link_words : (plan : Scenario) (l : plans.Link) → IsScenario plan → IsLink (length plan.groups) plan.delay l → AreWords (sender_word plan l.sender ∷ group_name_at plan l.to ∷ decimal l.least ∷ decimal l.most ∷ [])
+link_words : (plan : Scenario) (l : plans.Link) → IsScenario plan → IsLink (length plan.groups) plan.delay l → AreWords (sender_word plan l.sender ∷ group_name_at plan l.to ∷ decimal l.least ∷ decimal l.most ∷ stamps_words l.stamps)
 link_words plan l s is =
     let to = group_name (group_name_at plan l.to) (All-get_or (λ name. is_group_name name ≡ true) plan.groups l.to [] is.to s.group_names) in
     let sender = sender_is plan l.sender s.group_names is.sender in
-    (sender.0, (name_word (group_name_at plan l.to) to.0, (decimal_word l.least (omega (arith, is.ordered, is.high, s.delay_high)), (decimal_word l.most (omega (arith, is.high, s.delay_high)), tt))))
+    (sender.0, (name_word (group_name_at plan l.to) to.0, (decimal_word l.least (omega (arith, is.ordered, is.high, s.delay_high)), (decimal_word l.most (omega (arith, is.high, s.delay_high)), stamps_are_words l.stamps))))
 
-link_line_again : (plan : Scenario) (l : plans.Link) → IsScenario plan → IsLink (length plan.groups) plan.delay l → link_in (link_line plan l) ≡ Some (draft_link plan l)
-link_line_again plan l s is =
+link_line_again : (version : Version) (plan : Scenario) (l : plans.Link) → IsScenario plan → IsLink (length plan.groups) plan.delay l → CanHaveStamps version l.stamps → link_in version (link_line plan l) ≡ Some (draft_link plan l)
+link_line_again version plan l s is can =
     let to = group_name (group_name_at plan l.to) (All-get_or (λ name. is_group_name name ≡ true) plan.groups l.to [] is.to s.group_names) in
     let sender = sender_is plan l.sender s.group_names is.sender in
-    let words = label_again (codes "link") (sender_word plan l.sender ∷ group_name_at plan l.to ∷ decimal l.least ∷ decimal l.most ∷ []) (known_word (codes "link") refl) (link_words plan l s is) in
-    rw (words, number_again greatest_delay_number l.least (omega arith) (omega (arith, is.ordered, is.high, s.delay_high)), number_again greatest_delay_number l.most (omega arith) (omega (arith, is.high, s.delay_high)), sender.1, name_again (group_name_at plan l.to) to.0) refl
+    let words = label_again (codes "link") (sender_word plan l.sender ∷ group_name_at plan l.to ∷ decimal l.least ∷ decimal l.most ∷ stamps_words l.stamps) (known_word (codes "link") refl) (link_words plan l s is) in
+    rw (words, number_again greatest_delay_number l.least (omega arith) (omega (arith, is.ordered, is.high, s.delay_high)), number_again greatest_delay_number l.most (omega arith) (omega (arith, is.high, s.delay_high)), stamps_again version l.stamps can, sender.1, name_again (group_name_at plan l.to) to.0, home_again plan l.sender l.to l.stamps is.stamps) refl
 
 -- the words of a line `multicast`
 message_words : (plan : Scenario) (m : Message) → IsScenario plan → IsMulticast (length plan.groups) m → AreWords (m.name ∷ sender_word plan m.sender ∷ issue_word m.at m.longest_wait ∷ map (group_name_at plan) m.destinations)
@@ -255,33 +264,33 @@ none_due plan (m ∷ ms) t more rest number version s are some = no_link plan m 
 
 link_begins : (plan : Scenario) (l : plans.Link) → IsScenario plan → IsLink (length plan.groups) plan.delay l → begins_with (codes "link") (words_of (link_line plan l)) ≡ true
 link_begins plan l s is =
-    ap (begins_with (codes "link")) (words_again (codes "link") (sender_word plan l.sender ∷ group_name_at plan l.to ∷ decimal l.least ∷ decimal l.most ∷ []) refl (link_words plan l s is))
+    ap (begins_with (codes "link")) (words_again (codes "link") (sender_word plan l.sender ∷ group_name_at plan l.to ∷ decimal l.least ∷ decimal l.most ∷ stamps_words l.stamps) refl (link_words plan l s is))
 
-lines_of_links : (version : Version) → ((line : List ℕ) → is_link_due version line ≡ begins_with (codes "link") (words_of line)) → (plan : Scenario) (ls : List plans.Link) (lines : List (List ℕ)) (rest : List ℕ) (count number : ℕ) → IsScenario plan → All (IsLink (length plan.groups) plan.delay) ls
+lines_of_links : (version : Version) → ((line : List ℕ) → is_link_due version line ≡ begins_with (codes "link") (words_of line)) → (plan : Scenario) (ls : List plans.Link) (lines : List (List ℕ)) (rest : List ℕ) (count number : ℕ) → IsScenario plan → All (IsLink (length plan.groups) plan.delay) ls → AllByRecursion (λ l. CanHaveStamps version l.stamps) ls
     → ((n : ℕ) → is_link_due version (upcoming (record { ended = lines; rest = rest; number = n })) ≡ false) → count + length ls ≤ MOST_LINKS
     → links_in version count number rest (map (link_line plan) ls ++ lines) ≡ Ok (map (draft_link plan) ls, record { ended = lines; rest = rest; number = number + length ls })
 unfolding links_in
-lines_of_links version has plan [] lines rest count number s are other few =
+lines_of_links version has plan [] lines rest count number s are can other few =
     let e : number + 0 ≡ number = omega arith in
     rw e (no_more version count (record { ended = lines; rest = rest; number = number }) (other number))
-lines_of_links version has plan (l ∷ ls) lines rest count number s are other few =
+lines_of_links version has plan (l ∷ ls) lines rest count number s are can other few =
     let is = All-head (IsLink (length plan.groups) plan.delay) l ls are in
     let e : number + suc (length ls) ≡ (number + 1) + length ls = omega arith in
     let below : (count == MOST_LINKS) ≡ false = ne_eqb count MOST_LINKS (λ e. omega arith) in
-    rw (has (link_line plan l) ∙ link_begins plan l s is, link_line_again plan l s is, below, lines_of_links version has plan ls lines rest (count + 1) (number + 1) s (All-tail (IsLink (length plan.groups) plan.delay) l ls are) other (omega arith), e) refl
+    rw (has (link_line plan l) ∙ link_begins plan l s is, link_line_again version plan l s is can.0, below, lines_of_links version has plan ls lines rest (count + 1) (number + 1) s (All-tail (IsLink (length plan.groups) plan.delay) l ls are) can.1 other (omega arith), e) refl
 
-pub links_read : (version : Version) (plan : Scenario) (t : List ℕ) (more : List (List ℕ)) (rest : List ℕ) (number : ℕ) → IsScenario plan → CanSayLinks version plan.links
+pub links_read : (version : Version) (plan : Scenario) (t : List ℕ) (more : List (List ℕ)) (rest : List ℕ) (number : ℕ) → IsScenario plan → CanSay version plan
     → links_in version 0 number rest (map (link_line plan) plan.links ++ (map (multicast_line plan) plan.multicasts ++ t ∷ more))
     ≡ Ok (map (draft_link plan) plan.links, record { ended = map (multicast_line plan) plan.multicasts ++ t ∷ more; rest = rest; number = number + length plan.links })
-links_read One plan t more rest number s none =
+links_read One plan t more rest number s said =
     let lines = map (multicast_line plan) plan.multicasts ++ t ∷ more in
     let e : number + 0 ≡ number = omega arith in
-    rw (none, e) (no_more One 0 (record { ended = lines; rest = rest; number = number }) refl)
-links_read Two plan t more rest number s any =
-    lines_of_links Two (λ line. refl) plan plan.links (map (multicast_line plan) plan.multicasts ++ t ∷ more) rest 0 number s s.links (λ n. none_due plan plan.multicasts t more rest n Two s s.messages s.multicasts_low)
+    rw (said.links, e) (no_more One 0 (record { ended = lines; rest = rest; number = number }) refl)
+links_read Two plan t more rest number s said =
+    lines_of_links Two (λ line. refl) plan plan.links (map (multicast_line plan) plan.multicasts ++ t ∷ more) rest 0 number s s.links (can_have_stamps Two plan said.time) (λ n. none_due plan plan.multicasts t more rest n Two s s.messages s.multicasts_low)
     (omega (arith, few_links plan s))
-links_read Three plan t more rest number s any =
-    lines_of_links Three (λ line. refl) plan plan.links (map (multicast_line plan) plan.multicasts ++ t ∷ more) rest 0 number s s.links (λ n. none_due plan plan.multicasts t more rest n Three s s.messages s.multicasts_low)
+links_read Three plan t more rest number s said =
+    lines_of_links Three (λ line. refl) plan plan.links (map (multicast_line plan) plan.multicasts ++ t ∷ more) rest 0 number s s.links (can_have_stamps Three plan said.time) (λ n. none_due plan plan.multicasts t more rest n Three s s.messages s.multicasts_low)
     (omega (arith, few_links plan s))
 
 -- no link is out of order
@@ -379,7 +388,7 @@ scenario_again version plan number rest more s said =
     (then_ok (form_at Groups groups_in p1) (after_groups version plan.time plan.tick plan.delay)
     (plan.groups, p2) (Ok (plan, p5)) (form_again Groups groups_in (first + 1) rest (groups_line plan) linked plan.groups (groups_again plan s))
     (then_ok (links_at version 0 p2) (after_links version plan.time plan.tick plan.delay p2.number plan.groups)
-    (ls, p3) (Ok (plan, p5)) (links_read version plan (target_line plan) more rest (first + 1 + 1) s said.links)
+    (ls, p3) (Ok (plan, p5)) (links_read version plan (target_line plan) more rest (first + 1 + 1) s said)
     (then_ok (messages_at version 0 p3) (after_messages plan.time plan.tick plan.delay p2.number plan.groups ls p3.number)
     (ms, p4) (Ok (plan, p5)) (messages_again version plan plan.multicasts (target_line plan) more rest 0 p3.number s s.messages (can_wait version plan said.time) (not_due plan s within) (omega (arith, s.multicasts_high)) (omega (arith, s.multicasts_low)))
     (then_ok (form_at Target target_in p4) (after_target plan.time plan.tick plan.delay p2.number plan.groups ls p3.number ms)
@@ -405,7 +414,7 @@ link_lines : (plan : Scenario) (ls : List plans.Link) → IsScenario plan → Al
 link_lines plan [] s are = tt
 link_lines plan (l ∷ ls) s are =
     let is = All-head (IsLink (length plan.groups) plan.delay) l ls are in
-    (line_lacks (codes "link") (sender_word plan l.sender ∷ group_name_at plan l.to ∷ decimal l.least ∷ decimal l.most ∷ []) refl (link_words plan l s is), link_lines plan ls s (All-tail (IsLink (length plan.groups) plan.delay) l ls are))
+    (line_lacks (codes "link") (sender_word plan l.sender ∷ group_name_at plan l.to ∷ decimal l.least ∷ decimal l.most ∷ stamps_words l.stamps) refl (link_words plan l s is), link_lines plan ls s (All-tail (IsLink (length plan.groups) plan.delay) l ls are))
 
 time_lines_are : (version : Version) (time : Time) → AreLines (time_lines version time)
 time_lines_are One time = tt

@@ -2,7 +2,7 @@
 use Rattle.std.proofs.Common.{◌≡◌, ℕ, ℤ, pos, negsuc, int_le, ◌&&◌, ◌+◌, ◌-◌, ◌<◌, ◌==◌, if◌then◌else◌, Bool, true, false, cond, leb, ltb, List, [], ◌∷◌, ◌++◌, length, get_or, map, filter, Option, Some, None, ok_or, Result, Ok, Err, refl, ap, sym, subst, ◌∙◌, arith, inl, inr, codes, decimal, add-zero, add-one, append_assoc}
 use Rattle.std.specs.List.{list_all, list_any, AllByRecursion, AllZip, range_with_len}
 use Rattle.std.specs.Str.{bytes_eq}
-use Rattle.std.proofs.lemmas.Bool.{and_parts, and_from, cases_Bool, false≢true, le-leb, leb-true}
+use Rattle.std.proofs.lemmas.Bool.{and_parts, and_from, cases_Bool, false≢true, le-leb, leb-true, or_from}
 use Rattle.std.proofs.lemmas.List.{length-append, length-map}
 use Rattle.std.proofs.lemmas.Option.{same_Some}
 use Rattle.std.proofs.lemmas.Slice.Eq.{slice_eq-Decides, bytes_eq-Decides}
@@ -22,7 +22,7 @@ use Rattle.convoy_draft.specs.declared.fault.Limit.TheVariants as limit
 use Rattle.convoy_draft.specs.Draft.{Draft, DraftLink, DraftMessage}
 use Rattle.convoy_scenario.specs.Naming.{sender_word}
 use Rattle.convoy_scenario.specs.Room.{has_room}
-use Rattle.convoy_scenario.specs.Scenario.{Scenario, message_at, may_wait}
+use Rattle.convoy_scenario.specs.Scenario.{Scenario, message_at, may_wait, is_timed, has_own_stamps}
 use Rattle.convoy_scenario.specs.WellFormed.{IsScenario}
 use Rattle.convoy_draft.specs.Names.{is_name, is_group_name, client_word}
 use Rattle.convoy_draft.specs.Limits.{greatest_delay}
@@ -31,7 +31,7 @@ use Rattle.convoy_draft.specs.Checks.{checks, judge, ticks, has_wait, is_within,
 use Rattle.convoy_scenario.specs.Numbering as numbering
 use Rattle.convoy_scenario.specs.Numbering.{place, numbers_of, link_of, message_of, in_order, delay_of_draft, links_of_draft, scenario_of, scenario_of_draft}
 use Rattle.convoy_lines.specs.Texts.{line_of}
-use Rattle.convoy_scenario_lines.specs.ScenarioLines.{time_line, time_lines, tick_lines, lines_from_delay, delay_line, groups_line, link_line, issue_word, multicast_line, target_line, scenario_lines}
+use Rattle.convoy_scenario_lines.specs.ScenarioLines.{time_line, time_lines, tick_lines, lines_from_delay, delay_line, groups_line, link_line, stamps_words, issue_word, multicast_line, target_line, scenario_lines}
 use Rattle.convoy_lines.specs.Labels.{number_in}
 use Rattle.convoy_scenario_lines.specs.LineForms.{name_of, named_sender, time_in, tick_in, groups_in, link_in, multicast_in, target_in}
 use Rattle.convoy_lines.specs.Results.{◌>>=◌}
@@ -43,6 +43,7 @@ use Rattle.convoy_scenario.proofs.LinkLemmas.{stay}
 use Rattle.convoy_scenario.proofs.NumberedLemmas.{all_hold}
 use Rattle.convoy_scenario.proofs.PlaceLemmas.{name_at_place}
 use Rattle.convoy_scenario_lines.proofs.Issues.{CanWait}
+use Rattle.convoy_scenario_lines.proofs.OwnStamps.{CanHaveStamps, kept_stamps}
 use Rattle.convoy_lines.proofs.LabelLemmas.{number_line_takes}
 use Rattle.convoy_scenario_lines.proofs.LinkOrder.{placed}
 use Rattle.convoy_scenario_lines.proofs.TickLines.{tick_takes}
@@ -173,12 +174,12 @@ low_and_high low high (pos d) within h =
     )
 low_and_high low high (negsuc d) within h = absurd (false≢true within)
 
-abbrev four_words : List ℕ → List ℕ → List ℕ → List ℕ → List ℕ
-four_words from to low high = line_of (codes "link") (from ∷ to ∷ low ∷ high ∷ [])
+abbrev four_words : List ℕ → List ℕ → List ℕ → List ℕ → Bool → List ℕ
+four_words from to low high stamps = line_of (codes "link") (from ∷ to ∷ low ∷ high ∷ stamps_words stamps)
 
-link_is : (draft : Draft) (line : List ℕ) (l : DraftLink) → AllByRecursion (λ name. 0 < length name) draft.groups → is_within 1 GREATEST_DELAY draft.delay ≡ true → has_range draft.delay l ≡ true → knows_link draft.groups l ≡ true
-    → SaysLink line l → line ≡ link_line (scenario_of draft) (link_of draft.groups l)
-link_is draft line l some within range known s =
+link_is : (version : Version) (draft : Draft) (line : List ℕ) (l : DraftLink) → AllByRecursion (λ name. 0 < length name) draft.groups → is_within 1 GREATEST_DELAY draft.delay ≡ true → has_range draft.delay l ≡ true → knows_link draft.groups l ≡ true
+    → SaysLink version line l → line ≡ link_line (scenario_of draft) (link_of draft.groups l)
+link_is version draft line l some within range known s =
     let sender-said : l.sender ≡ named_sender s.from = ap (λ (d : DraftLink). d.sender) s.said in
     let to-said : l.to ≡ name_of s.to = ap (λ (d : DraftLink). d.to) s.said in
     let least-said : l.least ≡ pos s.low = ap (λ (d : DraftLink). d.least) s.said in
@@ -192,21 +193,23 @@ link_is draft line l some within range known s =
     let ticks-are = low_and_high s.low s.high draft.delay within (subst (λ (z : ℤ). (int_le (pos 1) (pos s.low) && int_le (pos s.low) z && int_le z draft.delay) ≡ true) most-said (subst (λ (z : ℤ). (int_le (pos 1) z && int_le z l.most && int_le l.most draft.delay) ≡ true) least-said range)) in
     let low-is : decimal s.low ≡ decimal (ticks GREATEST_DELAY l.least) = ticks-are.0 ∙ ap (λ z. decimal (ticks GREATEST_DELAY z)) (sym least-said) in
     let high-is : decimal s.high ≡ decimal (ticks GREATEST_DELAY l.most) = ticks-are.1 ∙ ap (λ z. decimal (ticks GREATEST_DELAY z)) (sym most-said) in
-    s.written ∙ ap (λ f. four_words f s.to (decimal s.low) (decimal s.high)) from-is
-    ∙ ap (λ t. four_words (sender_word (scenario_of draft) (numbering.sender_of draft.groups l.sender)) t (decimal s.low) (decimal s.high)) to-is
-    ∙ ap (λ w. four_words (sender_word (scenario_of draft) (numbering.sender_of draft.groups l.sender)) (get_or draft.groups (place l.to draft.groups) []) w (decimal s.high)) low-is
-    ∙ ap (λ w. four_words (sender_word (scenario_of draft) (numbering.sender_of draft.groups l.sender)) (get_or draft.groups (place l.to draft.groups) []) (decimal (ticks GREATEST_DELAY l.least)) w) high-is
+    let stamps-is : s.stamps ≡ (link_of draft.groups l).stamps = ap (λ (d : DraftLink). d.stamps) (sym s.said) ∙ sym (kept_stamps draft.groups l s.home) in
+    s.written ∙ ap (λ f. four_words f s.to (decimal s.low) (decimal s.high) s.stamps) from-is
+    ∙ ap (λ t. four_words (sender_word (scenario_of draft) (numbering.sender_of draft.groups l.sender)) t (decimal s.low) (decimal s.high) s.stamps) to-is
+    ∙ ap (λ w. four_words (sender_word (scenario_of draft) (numbering.sender_of draft.groups l.sender)) (get_or draft.groups (place l.to draft.groups) []) w (decimal s.high) s.stamps) low-is
+    ∙ ap (λ w. four_words (sender_word (scenario_of draft) (numbering.sender_of draft.groups l.sender)) (get_or draft.groups (place l.to draft.groups) []) (decimal (ticks GREATEST_DELAY l.least)) w s.stamps) high-is
+    ∙ ap (four_words (sender_word (scenario_of draft) (numbering.sender_of draft.groups l.sender)) (get_or draft.groups (place l.to draft.groups) []) (decimal (ticks GREATEST_DELAY l.least)) (decimal (ticks GREATEST_DELAY l.most))) stamps-is
 
-link_lines_are : (draft : Draft) (lines : List (List ℕ)) (ls : List DraftLink) → AllByRecursion (λ name. 0 < length name) draft.groups → is_within 1 GREATEST_DELAY draft.delay ≡ true
-    → list_all (has_range draft.delay) ls ≡ true → list_all (knows_link draft.groups) ls ≡ true → AllZip SaysLink lines ls → lines ≡ map (link_line (scenario_of draft)) (map (link_of draft.groups) ls)
-link_lines_are draft [] [] some within ranges known say = refl
-link_lines_are draft [] (l ∷ ls) some within ranges known say = absurd say
-link_lines_are draft (w ∷ ws) [] some within ranges known say = absurd say
-link_lines_are draft (w ∷ ws) (l ∷ ls) some within ranges known say =
+link_lines_are : (version : Version) (draft : Draft) (lines : List (List ℕ)) (ls : List DraftLink) → AllByRecursion (λ name. 0 < length name) draft.groups → is_within 1 GREATEST_DELAY draft.delay ≡ true
+    → list_all (has_range draft.delay) ls ≡ true → list_all (knows_link draft.groups) ls ≡ true → AllZip (SaysLink version) lines ls → lines ≡ map (link_line (scenario_of draft)) (map (link_of draft.groups) ls)
+link_lines_are version draft [] [] some within ranges known say = refl
+link_lines_are version draft [] (l ∷ ls) some within ranges known say = absurd say
+link_lines_are version draft (w ∷ ws) [] some within ranges known say = absurd say
+link_lines_are version draft (w ∷ ws) (l ∷ ls) some within ranges known say =
     let a = and_parts (has_range draft.delay l) (list_all (has_range draft.delay) ls) ranges in
     let b = and_parts (knows_link draft.groups l) (list_all (knows_link draft.groups) ls) known in
-    let one = link_is draft w l some within a.0 b.0 say.0 in
-    ap (λ x. x ∷ ws) one ∙ ap (λ t. link_line (scenario_of draft) (link_of draft.groups l) ∷ t) (link_lines_are draft ws ls some within a.1 b.1 say.1)
+    let one = link_is version draft w l some within a.0 b.0 say.0 in
+    ap (λ x. x ∷ ws) one ∙ ap (λ t. link_line (scenario_of draft) (link_of draft.groups l) ∷ t) (link_lines_are version draft ws ls some within a.1 b.1 say.1)
 
 -- ---- lines, one after another
 
@@ -314,24 +317,24 @@ unless : {A : Type 0} (b : Bool) (fault : LineFault) (r : Result A LineFault) (x
 unless true fault r x e = absurd cc
 unless false fault r x e = e
 
-pub links_take : (version : Version) (count number : ℕ) (rest : List ℕ) (ended : List (List ℕ)) (x : List DraftLink × Place) → links_in version count number rest ended ≡ Ok x → TookLines SaysLink number rest ended x
+pub links_take : (version : Version) (count number : ℕ) (rest : List ℕ) (ended : List (List ℕ)) (x : List DraftLink × Place) → links_in version count number rest ended ≡ Ok x → TookLines (SaysLink version) number rest ended x
 unfolding links_in
 links_take version count number rest [] x e =
     let same = stop (is_link_due version rest) (faults.Line number Link) ([], record { ended = []; rest = rest; number = number }) x e in
-    subst (TookLines SaysLink number rest []) same (record { lines = []; before = refl; after = refl; past = omega arith; say = tt })
+    subst (TookLines (SaysLink version) number rest []) same (record { lines = []; before = refl; after = refl; past = omega arith; say = tt })
 links_take version count number rest (line ∷ lines) x e =
     elim (cases_Bool (is_link_due version line)) [
       | inl due ↦
-          let read : (ok_or (link_in line) (faults.Line number Link) >>= λ link. (if count == MOST_LINKS then Err (faults.Scenario (OverLimit limit.Link)) else links_in version (count + 1) (number + 1) rest lines) >>= λ more. Ok (link ∷ more.0, more.1)) ≡ Ok x = rw due at e in
-          let a = bind_ok (ok_or (link_in line) (faults.Line number Link)) (λ link. (if count == MOST_LINKS then Err (faults.Scenario (OverLimit limit.Link)) else links_in version (count + 1) (number + 1) rest lines) >>= λ more. Ok (link ∷ more.0, more.1)) x read in
+          let read : (ok_or (link_in version line) (faults.Line number Link) >>= λ link. (if count == MOST_LINKS then Err (faults.Scenario (OverLimit limit.Link)) else links_in version (count + 1) (number + 1) rest lines) >>= λ more. Ok (link ∷ more.0, more.1)) ≡ Ok x = rw due at e in
+          let a = bind_ok (ok_or (link_in version line) (faults.Line number Link)) (λ link. (if count == MOST_LINKS then Err (faults.Scenario (OverLimit limit.Link)) else links_in version (count + 1) (number + 1) rest lines) >>= λ more. Ok (link ∷ more.0, more.1)) x read in
           let b = bind_ok (if count == MOST_LINKS then Err (faults.Scenario (OverLimit limit.Link)) else links_in version (count + 1) (number + 1) rest lines) (λ more. Ok (a.0 ∷ more.0, more.1)) x a.2 in
           let same : (a.0 ∷ b.0.0, b.0.1) ≡ x = same_ok (a.0 ∷ b.0.0, b.0.1) x b.2 in
           let more = links_take version (count + 1) (number + 1) rest lines b.0 (unless (count == MOST_LINKS) (faults.Scenario (OverLimit limit.Link)) _ b.0 b.1) in
-          let says = link_takes line a.0 (ok_or_takes (link_in line) (faults.Line number Link) a.0 a.1) in
-          subst (TookLines SaysLink number rest (line ∷ lines)) same (record { lines = line ∷ more.lines; before = ap (λ t. line ∷ t) more.before; after = more.after; past = omega (arith, more.past); say = (says, more.say) })
+          let says = link_takes version line a.0 (ok_or_takes (link_in version line) (faults.Line number Link) a.0 a.1) in
+          subst (TookLines (SaysLink version) number rest (line ∷ lines)) same (record { lines = line ∷ more.lines; before = ap (λ t. line ∷ t) more.before; after = more.after; past = omega (arith, more.past); say = (says, more.say) })
       | inr other ↦
           let read : Ok ([], record { ended = line ∷ lines; rest = rest; number = number }) ≡ Ok x = rw other at e in
-          subst (TookLines SaysLink number rest (line ∷ lines)) (same_ok ([], record { ended = line ∷ lines; rest = rest; number = number }) x read) (record { lines = []; before = refl; after = refl; past = omega arith; say = tt })
+          subst (TookLines (SaysLink version) number rest (line ∷ lines)) (same_ok ([], record { ended = line ∷ lines; rest = rest; number = number }) x read) (record { lines = []; before = refl; after = refl; past = omega arith; say = tt })
     ]
 
 -- version 1 has no lines `link`
@@ -395,10 +398,34 @@ none_waits version none draft (l ∷ ls) (m ∷ ms) say fine =
     let first : may_wait (message_of draft.groups m) ≡ false = ap (λ n. ltb 0 n) still in
     rw first (none_waits version none draft ls ms say.1 fine.1)
 
-can_say_time : (version : Version) (draft : Draft) (lines : List (List ℕ)) → SaysTime version draft.time → AllZip (Says version) lines draft.messages → AllByRecursion (Fine draft) draft.messages → CanSayTime version (scenario_of draft)
-can_say_time One draft lines whole say fine = rw whole (none_waits One (λ wait e. e) draft lines draft.messages say fine)
-can_say_time Two draft lines whole say fine = rw whole (none_waits Two (λ wait e. e) draft lines draft.messages say fine)
-can_say_time Three draft lines said say fine = tt
+-- where a version can say of no link that it is for stamps, too, none is
+none_stamped : (version : Version) → ((stamps : Bool) → CanHaveStamps version stamps → stamps ≡ false) → (groups lines : List (List ℕ)) (ls : List DraftLink) → AllZip (SaysLink version) lines ls
+    → list_any (λ l. l.stamps) (map (link_of groups) ls) ≡ false
+none_stamped version none groups [] [] say = refl
+none_stamped version none groups [] (l ∷ ls) say = absurd say
+none_stamped version none groups (w ∷ ws) [] say = refl
+none_stamped version none groups (w ∷ ws) (l ∷ ls) say =
+    let without : l.stamps ≡ false = ap (λ (d : DraftLink). d.stamps) say.0.said ∙ none say.0.stamps say.0.can in
+    rw without (none_stamped version none groups ws ls say.1)
+
+-- the lines `link` and `multicast` of a draft
+record AreSaid (version : Version) (draft : Draft) (links messages : List (List ℕ)) : Type 0 where
+  links_say : AllZip (SaysLink version) links draft.links
+  links_stay : in_order (delay_of_draft draft) (links_of_draft draft) ≡ links_of_draft draft
+  messages_say : AllZip (Says version) messages draft.messages
+  fine : AllByRecursion (Fine draft) draft.messages
+
+-- a version that can say of no wait and of no link for stamps has none of them
+untimed : (version : Version) → ((wait : ℕ) → CanWait version wait → wait ≡ 0) → ((stamps : Bool) → CanHaveStamps version stamps → stamps ≡ false)
+    → (draft : Draft) (links messages : List (List ℕ)) → draft.time ≡ Ticks → AreSaid version draft links messages → is_timed (scenario_of draft) ≡ false
+untimed version waitless stampless draft links messages whole said =
+    let links-are : has_own_stamps (scenario_of draft) ≡ false = rw said.links_stay (none_stamped version stampless draft.groups links draft.links said.links_say) in
+    rw whole (or_from _ _ (none_waits version waitless draft messages draft.messages said.messages_say said.fine) links-are)
+
+can_say_time : (version : Version) (draft : Draft) (links messages : List (List ℕ)) → SaysTime version draft.time → AreSaid version draft links messages → CanSayTime version (scenario_of draft)
+can_say_time One draft links messages whole said = untimed One (λ wait e. e) (λ stamps e. e) draft links messages whole said
+can_say_time Two draft links messages whole said = untimed Two (λ wait e. e) (λ stamps e. e) draft links messages whole said
+can_say_time Three draft links messages any said = tt
 
 lines_are : (version : Version) (draft : Draft) (lines : List (List ℕ)) (ms : List DraftMessage) → AllByRecursion (λ name. 0 < length name) draft.groups → AllZip (Says version) lines ms → AllByRecursion (Fine draft) ms
     → lines ≡ map (multicast_line (scenario_of draft)) (map (message_of draft.groups) ms)
@@ -568,7 +595,7 @@ taken version p x z y a b k c d z-is y-is a-is b-is k-is c-is d-is after =
     let stand = placed (delay_of_draft draft) None b.1.number (links_of_draft draft) last.1 in
     let kept : in_order (delay_of_draft draft) (links_of_draft draft) ≡ links_of_draft draft = stay (delay_of_draft draft) None (links_of_draft draft) stand.0 stand.1 in
     let links : t-links.lines ≡ map (link_line (scenario_of draft)) (scenario_of draft).links =
-    link_lines_are draft t-links.lines k.0 some delay-within all.1.1.1.1.1.0 references.1.1.0 t-links.say ∙ ap (map (link_line (scenario_of draft))) (sym kept) in
+    link_lines_are version draft t-links.lines k.0 some delay-within all.1.1.1.1.1.0 references.1.1.0 t-links.say ∙ ap (map (link_line (scenario_of draft))) (sym kept) in
     let lines = lines_are version draft t-messages.lines c.0 some t-messages.say fine in
     let target = target_takes t-target.line d.0 t-target.has (name_among d.0.0 c.0 references.1.1.1.1.1.0 names.1.0) (among_some d.0.1 b.0 references.1.0 some) in
     let named = given.named_target draft (scenario_of draft) made-is in
@@ -588,7 +615,7 @@ taken version p x z y a b k c d z-is y-is a-is b-is k-is c-is d-is after =
     (length (scenario_of draft).links) (length (scenario_of draft).multicasts) (length k.0) (length c.0) z.1.number y.1.number a.1.number b.1.number k.1.number c.1.number d.1.number (count_all version (scenario_of draft)) (count_lines (scenario_of draft)) messages linked
     t-time.number t-tick.number t-delay.number t-groups.number t-links.past t-messages.past t-target.number in
     subst (λ (read : Scenario × Place). IsScenario read.0 × CanSay version read.0 × IsBetween version read.0 p read.1) last.3
-    (given.of_draft draft (scenario_of draft) made-is, record { time = can_say_time version draft t-messages.lines t-time.said t-messages.say fine; links = can_say_links version draft 0 b.1.number b.1.rest b.1.ended k refl k-is }, record { ended = timed; rest = t-time.rest ∙ t-tick.rest ∙ t-delay.rest ∙ t-groups.rest ∙ t-links.after ∙ t-messages.after ∙ t-target.rest; number = past })
+    (given.of_draft draft (scenario_of draft) made-is, record { time = can_say_time version draft t-links.lines t-messages.lines t-time.said (record { links_say = t-links.say; links_stay = kept; messages_say = t-messages.say; fine = fine }); links = can_say_links version draft 0 b.1.number b.1.rest b.1.ended k refl k-is }, record { ended = timed; rest = t-time.rest ∙ t-tick.rest ∙ t-delay.rest ∙ t-groups.rest ∙ t-links.after ∙ t-messages.after ∙ t-target.rest; number = past })
 
 pub scenario_takes : (version : Version) (p : Place) (x : Scenario × Place) → scenario_at version p ≡ Ok x → IsScenario x.0 × CanSay version x.0 × IsBetween version x.0 p x.1
 unfolding scenario_at

@@ -1,5 +1,5 @@
 -- The forms of a scenario's lines: what a line says, where it has its form.
-use Rattle.std.specs.Prelude.{ℕ, pos, ◌*◌, ◌==◌, ◌&&◌, nat_le, nat_lt, if◌then◌else◌, List, [], map, length, take, drop, codes, position, Option, Some, None, option_map}
+use Rattle.std.specs.Prelude.{ℕ, pos, ◌*◌, ◌==◌, Bool, true, false, ◌&&◌, nat_le, nat_lt, if◌then◌else◌, List, [], map, length, take, drop, codes, position, Option, Some, None, option_map}
 use Rattle.std.specs.Option.{option_or}
 use Rattle.std.specs.Str.{bytes_eq, is_utf8}
 use Rattle.convoy_lines.specs.Labels.{greatest_number, words_after}
@@ -7,6 +7,7 @@ use Rattle.convoy_lines.specs.Chains.{◌>>=◌}
 use Rattle.convoy_lines.specs.Words.{next_word, number_of}
 use Rattle.convoy_draft.specs.declared.time.Time.{Time}
 use Rattle.convoy_draft.specs.declared.time.Time.TheVariants.{Ticks, Real}
+use Rattle.convoy_draft.specs.Checks.{leads_elsewhere}
 use Rattle.convoy_draft.specs.Draft.{DraftLink, DraftMessage}
 use Rattle.convoy_draft.specs.Durations.{unit_length, unit_named, unit_of, unit_word, within_longest}
 use Rattle.convoy_draft.specs.Names.{client_word}
@@ -50,9 +51,25 @@ groups_in line = do
 abbrev pub greatest_delay_number : ℕ
 greatest_delay_number = 65_535
 
+-- that a link is for stamps, too, by the one word `stamps`: version 3 alone has that word
+abbrev pub own_stamps_in : Version → List (List ℕ) → Option Bool
+own_stamps_in One words = None
+own_stamps_in Two words = None
+own_stamps_in Three words = do
+  word ← next_word words
+  if bytes_eq word.0 (codes "stamps") && length word.1 == 0 then Some true else None
+
+-- whether a link is for stamps, too, by the words after its range: where there are none, it is not
+abbrev pub stamps_in : Version → List (List ℕ) → Option Bool
+stamps_in version words = if length words == 0 then Some false else own_stamps_in version words
+
+-- the link, unless it is for stamps, too, and leads to another place than its sender
+abbrev pub where_stamps_stay : DraftLink → Option DraftLink
+where_stamps_stay link = if link.stamps && leads_elsewhere link then None else Some link
+
 -- the link of a line `link`
-abbrev pub link_in : List ℕ → Option DraftLink
-link_in line = do
+abbrev pub link_in : Version → List ℕ → Option DraftLink
+link_in version line = do
   words ← words_after (codes "link") line
   from ← next_word words
   to ← next_word from.1
@@ -60,7 +77,8 @@ link_in line = do
   most ← next_word least.1
   low ← number_of greatest_delay_number least.0
   high ← number_of greatest_delay_number most.0
-  if length most.1 == 0 then Some (record { sender = named_sender from.0; to = name_of to.0; least = pos low; most = pos high }) else None
+  stamps ← stamps_in version most.1
+  where_stamps_stay (record { sender = named_sender from.0; to = name_of to.0; least = pos low; most = pos high; stamps = stamps })
 
 -- the tick that a word is, as the first and the last one
 abbrev pub tick_alone : List ℕ → Option (ℕ × ℕ)

@@ -65,7 +65,7 @@ links_in version count number rest [] =
     else Ok ([], record { ended = []; rest = rest; number = number })
 links_in version count number rest (line ∷ lines) =
     if is_link_due version line then (do
-      link ← ok_or (link_in line) (faults.Line number Link)
+      link ← ok_or (link_in version line) (faults.Line number Link)
       more ← if count == MOST_LINKS then Err (faults.Scenario (OverLimit limit.Link)) else links_in version (count + 1) (number + 1) rest lines
       Ok (link ∷ more.0, more.1))
     else Ok ([], record { ended = line ∷ lines; rest = rest; number = number })

@@ -1,5 +1,5 @@
 -- The canonical lines of a scenario: the one text of each.
-use Rattle.std.specs.Prelude.{ℕ, ◌+◌, ◌==◌, if◌then◌else◌, List, [], ◌∷◌, ◌++◌, map, Option, Some, None, codes, decimal}
+use Rattle.std.specs.Prelude.{ℕ, ◌+◌, ◌==◌, Bool, true, false, if◌then◌else◌, List, [], ◌∷◌, ◌++◌, map, Option, Some, None, codes, decimal}
 use Rattle.convoy_lines.specs.Texts.{line_of, number_line, text_of}
 use Rattle.convoy_draft.specs.declared.time.Time.{Time}
 use Rattle.convoy_draft.specs.Durations.{count_of, unit_of, unit_word}
@@ -34,10 +34,15 @@ delay_line scenario = number_line (codes "delay") scenario.delay
 abbrev pub groups_line : Scenario → List ℕ
 groups_line scenario = line_of (codes "groups") scenario.groups
 
--- the ends of a link, and its range
+-- the last word of a link that is for stamps, too; another has no such word
+abbrev pub stamps_words : Bool → List (List ℕ)
+stamps_words true = codes "stamps" ∷ []
+stamps_words false = []
+
+-- the ends of a link, its range, and whether it is for stamps, too
 abbrev pub link_line : Scenario → Link → List ℕ
 link_line scenario link = line_of (codes "link")
-    (sender_word scenario link.sender ∷ group_name_at scenario link.to ∷ decimal link.least ∷ decimal link.most ∷ [])
+    (sender_word scenario link.sender ∷ group_name_at scenario link.to ∷ decimal link.least ∷ decimal link.most ∷ stamps_words link.stamps)
 
 -- the tick at which a message is issued; where it may wait, the first and the last such tick, with two dots between them
 abbrev pub issue_word : ℕ → ℕ → List ℕ

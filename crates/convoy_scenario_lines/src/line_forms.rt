@@ -3,7 +3,7 @@ ghost use Rattle.std.specs.Result.{result_map_both};
 ghost use Rattle.convoy_draft.specs.Checks.{is_among};
 ghost use Rattle.convoy_scenario_lines.specs.Keeping.{kept_groups, kept_destinations, kept_groups_in, kept_multicast_in};
 ghost use Rattle.convoy_scenario.specs.Memory.{IsUnlessMemory};
-ghost use Rattle.convoy_scenario_lines.specs.LineForms.{name_of, named_sender, time_in, tick_in, link_in, tick_alone, around_dots, tick_range, issue_in, target_in};
+ghost use Rattle.convoy_scenario_lines.specs.LineForms.{name_of, named_sender, time_in, tick_in, own_stamps_in, stamps_in, link_in, tick_alone, around_dots, tick_range, issue_in, target_in};
 
 use super::line_fault::LineFault;
 use super::version::Version;
@@ -134,9 +134,40 @@ pub fn groups_in(alloc: Global, line: &[u8], wrong: LineFault) -> Result<Vec<Nam
     Ok(groups)
 }
 
-/// The link of a line `link`; `wrong` where the line has not its form.
-pub fn link_in(alloc: Global, line: &[u8], wrong: LineFault) -> Result<DraftLink, LineFault>
-    ensures { IsUnlessMemory LineFault.Memory (ok_or (link_in line.now) wrong) result }
+/// Some(true) where the one word `stamps` is left, which version 3 alone has.
+fn own_stamps_in(version: Version, words: Words) -> Option<bool>
+    ensures { result ≡ own_stamps_in version words.entry }
+{
+    match version {
+        Version::One | Version::Two => None,
+        Version::Three => {
+            let mut words = words;
+            let word = words.next()?;
+            (word == b"stamps".as_slice() && words.are_over()).then_some(true)
+        }
+    }
+}
+
+/// Whether a link is for the own stamps of a group, too, by the words after its range; None where they
+/// are others than may stand there.
+fn stamps_in(version: Version, words: Words) -> Option<bool>
+    ensures { result ≡ stamps_in version words.entry }
+{
+    if words.are_over() {
+        Some(false)
+    } else {
+        own_stamps_in(version, words)
+    }
+}
+
+/// The link of a line `link`; `wrong` where the line has not its form in that version.
+pub fn link_in(
+    alloc: Global,
+    version: Version,
+    line: &[u8],
+    wrong: LineFault,
+) -> Result<DraftLink, LineFault>
+    ensures { IsUnlessMemory LineFault.Memory (ok_or (link_in version line.now) wrong) result }
 {
     let mut words = words_after(line, b"link").ok_or(wrong)?;
     let from = words.next().ok_or(wrong)?;
@@ -145,15 +176,17 @@ pub fn link_in(alloc: Global, line: &[u8], wrong: LineFault) -> Result<DraftLink
     let most = words.next().ok_or(wrong)?;
     let least = number_of(least, u32::from(u16::MAX)).ok_or(wrong)?;
     let most = number_of(most, u32::from(u16::MAX)).ok_or(wrong)?;
-    if !words.are_over() {
-        return Err(wrong);
-    }
-    Ok(DraftLink {
+    let link = DraftLink {
         sender: named_sender(alloc, from)?,
         to: name_of(alloc, to)?,
         least: i64::from(least),
         most: i64::from(most),
-    })
+        stamps: stamps_in(version, words).ok_or(wrong)?,
+    };
+    if link.stamps && link.leads_elsewhere() {
+        return Err(wrong);
+    }
+    Ok(link)
 }
 
 /// The tick that a word is, as the first and the last one.

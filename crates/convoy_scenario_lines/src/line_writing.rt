@@ -5,7 +5,7 @@ ghost use Rattle.convoy_draft.specs.Durations.{count_of};
 ghost use Rattle.convoy_lines.specs.Texts.{ended, spaced, text_of};
 ghost use Rattle.convoy_scenario.specs.Naming.{sender_word};
 ghost use Rattle.convoy_scenario.specs.WellFormed.{IsLink, IsSender};
-ghost use Rattle.convoy_scenario_lines.specs.ScenarioLines.{time_line, time_lines, tick_line, tick_lines, delay_line, groups_line, link_line, issue_word, multicast_line, target_line, scenario_text};
+ghost use Rattle.convoy_scenario_lines.specs.ScenarioLines.{time_line, time_lines, tick_line, tick_lines, delay_line, groups_line, link_line, stamps_words, issue_word, multicast_line, target_line, scenario_text};
 
 use super::version::Version;
 use convoy_lines::{push_further_word, push_number, push_number_line};
@@ -117,7 +117,20 @@ fn push_link(text: &mut Vec<u8>, scenario: &Scenario, link: &Link) -> AllocResul
     push_number(text, u32::from(link.least))?;
     text.push(b' ')?;
     push_number(text, u32::from(link.most))?;
+    push_stamps(text, link.stamps)?;
     Ok(text.push(b'\n')?)
+}
+
+/// Appends the word that says of a link that it is for stamps, too, where it is.
+fn push_stamps(text: &mut Vec<u8>, stamps: bool) -> AllocResult<()>
+    ensures { OnOk result
+        (text.new.items ≡ text.old.items ++ flat_map spaced (stamps_words stamps)) }
+{
+    if stamps {
+        push_further_word(text, "stamps")
+    } else {
+        Ok(())
+    }
 }
 
 fn push_multicasts(text: &mut Vec<u8>, scenario: &Scenario) -> AllocResult<()>

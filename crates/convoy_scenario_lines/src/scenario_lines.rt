@@ -168,13 +168,13 @@ fn read_groups(alloc: Global, reader: &mut LineReader) -> Read<Vec<Name>>
     groups_in(alloc, line, wrong)
 }
 
-fn read_link(alloc: Global, reader: &mut LineReader) -> Read<DraftLink>
-    ensures { IsUnlessMemory LineFault.Memory (form_at Expected.Link link_in reader.old)
+fn read_link(alloc: Global, version: Version, reader: &mut LineReader) -> Read<DraftLink>
+    ensures { IsUnlessMemory LineFault.Memory (form_at Expected.Link (link_in version) reader.old)
         (result_map_both (λ link. (link, reader.new)) (λ fault. fault) result) }
 {
     let wrong = LineFault::Line(reader.number(), Expected::Link);
     let line = reader.line().ok_or(wrong)?;
-    link_in(alloc, line, wrong)
+    link_in(alloc, version, line, wrong)
 }
 
 fn read_links(alloc: Global, version: Version, reader: &mut LineReader) -> Read<Vec<DraftLink>>
@@ -183,7 +183,7 @@ fn read_links(alloc: Global, version: Version, reader: &mut LineReader) -> Read<
 {
     let mut links = Vec::new(alloc);
     while is_link_due(version, reader) {
-        let link = read_link(alloc, reader)?;
+        let link = read_link(alloc, version, reader)?;
         if links.len() == MOST_LINKS {
             return Err(LineFault::Scenario(ScenarioFault::OverLimit(Limit::Link)));
         }

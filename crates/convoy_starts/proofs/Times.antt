@@ -1,9 +1,10 @@
 -- The order of arrivals and commits, and the most of the times of stamps, as the laws of the crates below have them.
 use Rattle.std.proofs.Common.{◌≡◌, ◌≢◌, ℕ, ◌+◌, ◌<◌, ◌≤◌, Bool, true, false, ◌==◌, ◌&&◌, not, nat_lt, inl, inr, List, [], ◌∷◌, length, filter, refl, ap, arith}
-use Rattle.std.proofs.lemmas.Bool.{cases_Bool, cases_lt, and_from, or_left, or_right, both_ways, eq-eqb, eqb-true, lt-ltb, le-leb, not_from_false, false_from_ne_true}
+use Rattle.std.proofs.lemmas.Bool.{cases_Bool, cases_lt, and_from, or_left, or_right, both_ways, eq-eqb, eqb-true, lt-ltb, le-leb, false_from_ne_true}
 use Rattle.convoy_draft.specs.declared.time.Time.{Time}
 use Rattle.convoy_draft.specs.declared.time.Time.TheVariants.{Ticks, Real}
-use Rattle.convoy_scenario.specs.Scenario.{Scenario, message_at, is_addressed, GoesTo}
+use Rattle.convoy_scenario.specs.Scenario.{Scenario, message_at, is_addressed, GoesTo, stamp_takes_time}
+use Rattle.convoy_packets.proofs.Sent.{other_stamp_takes}
 use Rattle.convoy_scenario.specs.WellFormed.{IsScenario}
 use Rattle.convoy_packets.specs.declared.packet.Packet.TheVariants.{Propose}
 use Rattle.convoy_packets.specs.Assignment.{Schedule, IsAssignment, delay_of}
@@ -78,8 +79,8 @@ pub proposal_takes_time : (scenario : Scenario) (schedule : Schedule) → IsScen
 proposal_takes_time scenario schedule well assigned m h g from to away =
     let goes : Bool = is_addressed (message_at scenario m) h && is_addressed (message_at scenario m) g in
     let sent : is_sent scenario (Propose m h g) ≡ true =
-    and_from goes (not (h == g)) (and_from (is_addressed (message_at scenario m) h) (is_addressed (message_at scenario m) g) from to)
-    (not_from_false (h == g) (false_from_ne_true (h == g) (λ t. away (eqb-true h g t)))) in
+    and_from goes (stamp_takes_time scenario h g) (and_from (is_addressed (message_at scenario m) h) (is_addressed (message_at scenario m) g) from to)
+    (other_stamp_takes scenario h g (false_from_ne_true (h == g) (λ t. away (eqb-true h g t)))) in
     let within = within_if_sent scenario schedule (Propose m h g) assigned sent in
     let range = range_within scenario (Propose m h g) well refl in
     omega (arith, within.0, range.low)

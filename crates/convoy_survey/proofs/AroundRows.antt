@@ -36,12 +36,11 @@ short_span have asked text scenario read = by_around asked.around refl where
 
 -- ---- what rows tell
 -- the rows of the scenario in which none waits are those of the scenario
-pub rows_around : AroundForgetsTargets → (settings : Settings) (span : Option ℕ) (n : ℕ) → span ≡ Some n → (scenario still : Scenario) (rows : List Surveyed) →
-    ((k : ℕ) → still ≡ with_rows (Some k) scenario) → AreRowsBy still (MayAnswer settings span still) rows → AreSurveyed settings span scenario rows
-rows_around forgets settings span n is scenario still rows none are =
-    subst (λ (far : Option ℕ). AreSurveyed settings far scenario rows) (sym is)
-    (of_base (subst (λ (base : Scenario). AreRowsBy base (MayAnswer settings (Some n) base) rows) (none n)
-    (subst (λ (far : Option ℕ). AreRowsBy still (MayAnswer settings far still) rows) is are)))
+pub rows_around : AroundForgetsTargets → (settings : Settings) (span : Option ℕ) (scenario still : Scenario) (rows : List Surveyed) →
+    still ≡ with_rows span scenario → AreRowsBy still (MayAnswer settings span still) rows → AreSurveyed settings span scenario rows
+rows_around forgets settings None scenario still rows is are = subst (λ (base : Scenario). AreRowsBy base (MayAnswer settings None base) rows) is are
+rows_around forgets settings (Some n) scenario still rows is are =
+    of_base (subst (λ (base : Scenario). AreRowsBy base (MayAnswer settings (Some n) base) rows) is are)
   where
     base : Scenario
     base = with_rows (Some n) scenario

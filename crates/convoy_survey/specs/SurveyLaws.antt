@@ -6,6 +6,7 @@ use Rattle.convoy_scenario.specs.Targets.{targets_of, with_target}
 use Rattle.convoy_scenario.specs.WellFormed.{IsScenario}
 use Rattle.convoy_sim.specs.Greatest.{IsReached, IsUpper}
 use Rattle.convoy_ceiling.specs.Ceiling.{IsUpperInTraffic}
+use Rattle.convoy_outages.specs.OutageCeiling.{IsUpperThrough}
 use Rattle.convoy_toml.specs.declared.asked.Asked.{Asked}
 use Rattle.convoy_toml.specs.Reading.{scenario_of_text_by}
 use Rattle.convoy_branch.specs.Options.{Settings}
@@ -23,7 +24,7 @@ use Rattle.convoy_survey.specs.declared.finding.Finding.TheVariants.{Greatest}
 use Rattle.convoy_survey.specs.declared.finding.Surveyed.{Surveyed}
 use Rattle.convoy_survey.specs.AtAll.{least_at_all, most_at_all, rows_of}
 use Rattle.convoy_survey.specs.Ceilings.{AreCeiled, IsAttainedInTraffic, IsCeiled}
-use Rattle.convoy_survey.specs.CeilingTables.{ceiled_of, greatest_attained, greatest_ceiling}
+use Rattle.convoy_survey.specs.CeilingTables.{ceiled_of, greatest_attained, greatest_ceiling, greatest_through}
 use Rattle.convoy_survey.specs.Findings.{Encloses, IsFinding, IsSurveyed, least_of, most_of, scenario_at}
 use Rattle.convoy_survey.specs.Judgements.{finding_verdict}
 use Rattle.convoy_survey.specs.Surveys.{AreSurveyed, with_rows}
@@ -88,7 +89,7 @@ pub record EnclosesInTraffic (scenario : Scenario) (m g : ℕ) (least : Option �
 -- The two numbers of a row of ceilings, `attained` and `ceiling`, enclose what traffic may cost its target, whether or not they are equal.
 abbrev pub CeilingRowsEnclose : Type 0
 CeilingRowsEnclose =
-    (scenario : Scenario) (row : Ceiled) → IsCeiled scenario row → EnclosesInTraffic scenario row.message row.group row.attained row.ceiling
+    (span : Option ℕ) (scenario : Scenario) (row : Ceiled) → IsCeiled span scenario row → EnclosesInTraffic scenario row.message row.group row.attained row.ceiling
 
 -- Of a message at all the groups that it goes to: in no traffic of the scenario's kinds is a latency of its kind above the most at any of them; traffic in which it is asked for at one of them attains the least, which is no greater. Of a least that is not known nothing is said.
 pub record EnclosesInTrafficAtAll (scenario : Scenario) (m : ℕ) (least : Option ℕ) (most : ℕ) : Type 0 where
@@ -99,6 +100,12 @@ pub record EnclosesInTrafficAtAll (scenario : Scenario) (m : ℕ) (least : Optio
 -- The two numbers of the row of a message at all groups, of which a table of ceilings has rows, enclose what traffic may cost it at its groups.
 abbrev pub CeilingRowsAtAllEnclose : Type 0
 CeilingRowsAtAllEnclose =
-    (scenario : Scenario) (m : ℕ) (rows : List Ceiled) →
-    AreCeiled scenario None rows → 0 < length (ceiled_of m rows) →
+    (span : Option ℕ) (scenario : Scenario) (m : ℕ) (rows : List Ceiled) →
+    AreCeiled span scenario None rows → 0 < length (ceiled_of m rows) →
     EnclosesInTrafficAtAll scenario m (greatest_attained (ceiled_of m rows)) (greatest_ceiling (ceiled_of m rows))
+
+-- What the row of a message at all groups tells of outages of this span: in traffic that keeps the links but for such no latency of its kind is above it at any of its groups.
+abbrev pub CeilingRowsAtAllHoldThrough : Type 0
+CeilingRowsAtAllHoldThrough =
+    (span : ℕ) (scenario : Scenario) (m : ℕ) (rows : List Ceiled) → AreCeiled (Some span) scenario None rows → 0 < length (ceiled_of m rows) →
+    IfSome (greatest_through (ceiled_of m rows)) (λ n. IsAtEach scenario m (λ g. IsUpperThrough span scenario m g n))

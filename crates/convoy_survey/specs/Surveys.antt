@@ -62,6 +62,10 @@ abbrev pub with_rows : Option ℕ → Scenario → Scenario
 with_rows None scenario = scenario
 with_rows (Some span) scenario = around_at 0 scenario scenario.target_message scenario.target_group
 
+-- the same, where that is asked
+abbrev pub rows_asked : Asked → Scenario → Scenario
+rows_asked asked scenario = with_rows (span_asked asked.around scenario) scenario
+
 -- they are the rows by searches with these settings
 abbrev pub AreSurveyed : Settings → Option ℕ → Scenario → List Surveyed → Type 0
 AreSurveyed settings span scenario rows = AreRowsBy (with_rows span scenario) (MayAnswer settings span scenario) rows

@@ -5,7 +5,7 @@ ghost use Rattle.convoy_survey.specs.Findings.{is_fault};
 ghost use Rattle.convoy_survey.specs.Surveys.{SurveySays, end_of, is_row_beyond, is_row_open};
 
 use super::finding::Surveyed;
-use super::rows::survey_around;
+use super::rows::survey;
 use super::table::survey_text;
 use super::times::Times;
 use convoy_branch::Options;
@@ -20,13 +20,13 @@ use std::sync::Wait;
 use std::thread::Threads;
 
 /// The survey of the scenario of a text: a table with a row for each message at each group that it goes to
-/// (docs/FORMATS.md, "What `survey` writes"). Of what is asked its target does not matter. The numbers of a row are those
-/// that [`latency_answer`](convoy_commands::latency_answer) tells of the scenario with that target, or around it where all is asked so: each message has its
-/// rows then. With ceilings, a row
-/// ends with the [`ceiling`](convoy_ceiling::ceiling) of its message at its group. Below the rows of a message stands one
-/// for it at all its groups, with the greatest of their numbers: when a client that waits for all of them has its answer.
-/// Numbers are in ticks, and where times are told ([`Times::of`]) in the unit that the options ask for or else the text
-/// writes, too. Where a message has a deadline, columns tell how each row keeps that of its own message. Each search is
+/// (docs/FORMATS.md, "What `survey` writes"). Of what is asked its target does not matter. The numbers of a row are
+/// those that [`latency_answer`](convoy_commands::latency_answer) tells of the scenario with that target, or around it
+/// where all is asked so: each message has its rows then. With ceilings, a row ends with the
+/// [`ceiling`](convoy_ceiling::ceiling) of its message at its group. Below the rows of a message stands one for it at
+/// all its groups, with the greatest of their numbers: when a client that waits for all of them has its answer. Numbers
+/// are in ticks, and where times are told ([`Times::of`]) in the unit that the options ask for or else the text writes,
+/// too. Where a message has a deadline, columns tell how each row keeps that of its own message. Each search is
 /// watched, by [`NoGate`](convoy_branch::NoGate) where nobody watches.
 ///
 /// It ends as `Done::Beyond` where a row is beyond its deadline; else as `Done::Faulty` where memory ran out for a row;
@@ -54,7 +54,7 @@ pub fn survey_answer<R: Threads + Wait + Sync, W: Watch + Sync>(
     // A scenario is well formed.
     let _count = scenario.message_count();
     let span = span_of(asked, text, &scenario);
-    let rows = survey_around(rt, alloc, span, &scenario, options, watches)?;
+    let rows = survey(rt, alloc, span, &scenario, options, watches)?;
     let times = Times::of(format, Measure::of(&scenario, options.unit(), input.unit));
     let deadlines = input.deadlines.as_slice();
     let text = survey_text(
@@ -75,9 +75,9 @@ ghost use Rattle.convoy_around.specs.Around.{is_span};
 ghost use Rattle.convoy_toml.specs.Around.{span_asked};
 ghost use Rattle.convoy_toml.specs.Reading.{scenario_of_text_by};
 
-/// By how much all is asked around the targets of the scenario that was read of a text, where it is asked so: no more than
-/// a span may be.
-fn span_of(asked: &Asked, _text: &[u8], scenario: &Scenario) -> Option<u32>
+/// The span by which all is asked around the targets of the scenario that was read of a text, where it is asked so, in
+/// ticks ([`span_asked`]): no longer than one may be.
+pub fn span_of(asked: &Asked, _text: &[u8], scenario: &Scenario) -> Option<u32>
     requires { scenario_of_text_by asked.now _text.now ≡ Ok scenario.now }
     ensures value { result ≡ span_asked asked.now.around scenario.now }
     ensures short { IfSome result (λ n. IsTrue (is_span n)) }

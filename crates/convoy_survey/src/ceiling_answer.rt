@@ -11,6 +11,7 @@ use super::ceilings::ceilings_of;
 use super::judgements::{is_beyond, is_open_by, verdict_at};
 use super::times::Times;
 use convoy_commands::{Answer, Done, Fault, Verdict, deadline_at};
+use convoy_outages::{Outage, span_asked};
 use convoy_scenario::{Scenario, ScenarioFault, TimeUnit};
 use convoy_tables::Format;
 use convoy_times::Measure;
@@ -23,9 +24,10 @@ use std::thread::Threads;
 /// message at the one group that is named (docs/FORMATS.md, "Tables of ceilings"). Of what is asked its target does not
 /// matter. A row has the ceiling and the greatest latency that is found in traffic of the scenario's kinds by at most
 /// `simulations` simulations for the row, as [`ceiling_answer`](convoy_commands::ceiling_answer) tells both of a target:
-/// in ticks, and where times are told ([`Times::of`]) in the unit that is asked for or else the text writes, too. Where a
-/// message has a deadline, columns tell how latencies in traffic keep that of a row's own message. As many rows are made
-/// at a time as there are watches.
+/// in ticks, and where times are told ([`Times::of`]) in the unit that is asked for or else the text writes, too; and the
+/// ceiling through outages, where these are asked for. Where a message has a deadline, columns tell how latencies in
+/// traffic, through outages where these are asked for, keep that of a row's own message. As many rows are made at a time as
+/// there are watches.
 ///
 /// It ends as `Done::Fine` where each row keeps the deadline of its message, or where that has none its latency is its
 /// ceiling. It ends as `Done::Beyond` where the latency of one is above its deadline, and else as `Done::Open` where one
@@ -34,11 +36,13 @@ use std::thread::Threads;
 /// is `Done::Beyond`.
 ///
 /// Faults of the whole are `Fault::Scenario`, where the text is that of no scenario, or where none of its groups has
-/// the name that is given, with `ScenarioFault::UnknownGroup` as its cause; and `Fault::Memory`.
+/// the name that is given, with `ScenarioFault::UnknownGroup` as its cause; `Fault::Outage`, where outages last for a
+/// duration and it is not known how long a tick is, or longer than they may; and `Fault::Memory`.
 pub fn ceilings_answer<R: Threads + Sync, W: Sync>(
     rt: &R,
     alloc: Global,
     format: Format,
+    outage: Option<Outage>,
     asked: &Asked,
     unit: Option<TimeUnit>,
     group: Option<&str>,
@@ -47,7 +51,7 @@ pub fn ceilings_answer<R: Threads + Sync, W: Sync>(
     watches: &[W],
 ) -> Result<Answer, Fault>
     requires { 0 < length watches.now }
-    ensures { SaysUnlessMemory (CeilingsSay format asked.now unit (option_map (λ name. name.now) group.entry))
+    ensures { SaysUnlessMemory (CeilingsSay format outage asked.now unit (option_map (λ name. name.now) group.entry))
         text.now (reply_of result) }
 {
     let input = read_toml_asked(alloc, text, asked)?;
@@ -57,13 +61,15 @@ pub fn ceilings_answer<R: Threads + Sync, W: Sync>(
     if !has_group(&scenario, group) {
         return Err(Fault::Scenario(ScenarioFault::UnknownGroup));
     }
-    let rows = ceilings_of(rt, alloc, &scenario, group, simulations, watches)?;
+    let span = span_asked(outage, &scenario)?;
+    let rows = ceilings_of(rt, alloc, &scenario, span, group, simulations, watches)?;
     let times = Times::of(format, Measure::of(&scenario, unit, input.unit));
     let deadlines = input.deadlines.as_slice();
     let text = ceilings_text(
         alloc,
         format,
         is_at_all_groups(group),
+        span.is_some(),
         &times,
         deadlines,
         &scenario,
@@ -142,7 +148,7 @@ fn ceiled_verdict(deadlines: &[Option<u32>], row: &Ceiled) -> Option<Verdict>
     ensures { result ≡ ceiled_verdict deadlines.now row.now }
 {
     let deadline = deadline_at(deadlines, row.message);
-    verdict_at(deadline, row.attained, Some(row.ceiling))
+    verdict_at(deadline, row.attained, Some(row.upper()))
 }
 
 /// Whether a row is beyond the deadline of its message.

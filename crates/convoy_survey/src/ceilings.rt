@@ -8,6 +8,7 @@ ghost use Rattle.convoy_survey.specs.Surveys.{IsTarget, IsTargetPair, TakesTarge
 use super::ceiled::Ceiled;
 use super::rows::targets_of;
 use convoy_ceiling::{ceiling, seek_traffic};
+use convoy_outages::{Span, ceiling_through};
 use convoy_rows::make_each;
 use convoy_scenario::Scenario;
 use convoy_scenario::naming::group_name;
@@ -15,7 +16,8 @@ use std::alloc::{AllocError, Global};
 use std::thread::Threads;
 
 /// The ceiling of each message of a scenario that may be its target, at each group that it goes to, in the
-/// order of their numbers; where a group is named, at that group alone. For each of them traffic that
+/// order of their numbers; where a group is named, at that group alone; and where a span is given, the ceiling through
+/// outages that last so long in all. For each of them traffic that
 /// attains the ceiling is sought by at most so many simulations. Where memory runs out for one of them,
 /// nothing is told of its traffic, and the others are sought all the same. Where no group has the name
 /// there are no rows. As many rows are made at a time as there are watches, of which nothing else is asked.
@@ -24,19 +26,20 @@ pub fn ceilings_of<R: Threads + Sync, W: Sync>(
     rt: &R,
     alloc: Global,
     scenario: &Scenario,
+    span: Option<Span>,
     group: Option<&str>,
     simulations: u64,
     watches: &[W],
 ) -> Result<Vec<Ceiled>, AllocError>
     requires { 0 < length watches.now }
-    ensures { IfOk result (λ rows. AreCeiled scenario.now
+    ensures { IfOk result (λ rows. AreCeiled span scenario.now
         (option_map (λ name. name.now) group.entry) rows.items) }
 {
     let seek = |message: usize, group: usize| -> Result<u32, AllocError>
         requires { IsTarget scenario.now message group }
         ensures { MaySeek scenario.entry.now message group result }
     { seek_at(alloc, scenario, message, group, simulations) };
-    let rows = ceilings_by(rt, alloc, scenario, group, watches, &seek)?;
+    let rows = ceilings_by(rt, alloc, scenario, span, group, watches, &seek)?;
     Ok(rows)
 }
 
@@ -51,20 +54,21 @@ pub fn ceilings_by<
     rt: &R,
     alloc: Global,
     scenario: &Scenario,
+    span: Option<Span>,
     group: Option<&str>,
     watches: &[W],
     seek: &F,
 ) -> Result<Vec<Ceiled>, AllocError>
     requires watched { 0 < length watches.now }
     requires takes { TakesTargets scenario.now (F.pre seek.now) }
-    ensures { IfOk result (λ rows. AreCeiledBy scenario.now
+    ensures { IfOk result (λ rows. AreCeiledBy span scenario.now
         (option_map (λ name. name.now) group.entry) (F.post seek.now) rows.items) }
 {
     let targets = targets_asked(alloc, scenario, group)?;
     let row = |target: &(usize, usize), _watch: &W| -> Ceiled
         requires { IsTargetPair scenario.now target.now × F.pre seek.now target.now.0 target.now.1 }
-        ensures { TellsCeiling scenario.entry.now (F.post seek.entry.now) target.now result }
-    { row_by(scenario, *target, seek) };
+        ensures { TellsCeiling span scenario.entry.now (F.post seek.entry.now) target.now result }
+    { row_by(scenario, span, *target, seek) };
     let rows = make_each(rt, alloc, watches, &targets, &row)?;
     Ok(rows)
 }
@@ -102,18 +106,20 @@ fn is_asked(scenario: &Scenario, asked: Option<&str>, group: usize) -> bool
 /// The row of a message at a group.
 fn row_by<F: Fn(usize, usize) -> Result<u32, AllocError>>(
     scenario: &Scenario,
+    span: Option<Span>,
     target: (usize, usize),
     seek: &F,
 ) -> Ceiled
     requires target { IsTargetPair scenario.now target }
     requires takes { F.pre seek.now target.0 target.1 }
-    ensures { TellsCeiling scenario.now (F.post seek.now) target result }
+    ensures { TellsCeiling span scenario.now (F.post seek.now) target result }
 {
     let (message, group) = target;
     Ceiled {
         message,
         group,
         ceiling: ceiling(scenario, message, group),
+        through: ceiling_through(scenario, span, message, group),
         attained: told(seek(message, group)),
     }
 }

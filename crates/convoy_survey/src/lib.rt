@@ -2,7 +2,7 @@
 //! that it goes to, and their ceilings; and how these keep their deadlines.
 #![tactic(auto)]
 
-pub use answering::{end_of, is_row_beyond, survey_answer};
+pub use answering::{end_of, is_row_beyond, span_of, survey_answer};
 pub use ceiled::Ceiled;
 pub use ceiling_answer::ceilings_answer;
 pub use ceilings::{ceilings_by, ceilings_of};
@@ -14,8 +14,8 @@ pub use finding::{Cause, Finding, Surveyed};
 pub use judgements::{
     has_deadline, is_beyond, is_open_by, push_verdict_cells, push_verdict_columns, verdict_at,
 };
-pub use rows::{survey, survey_around, survey_by};
-pub use searching::find;
+pub use rows::{survey, survey_by, with_rows};
+pub use searching::{find, scenario_at};
 pub use table::{push_finding_columns, push_time_columns, survey_text};
 pub use time_cells::{
     push_columns_if_told, push_time, push_time_if_told, push_time_pair, push_unit,

@@ -1,4 +1,4 @@
-ghost use Rattle.std.specs.Prelude.{◌≡◌, ℕ, ◌<◌, [], ◌∷◌, ◌++◌, length, Some, None, IfOk, IfSome, IsTrue, OnOk};
+ghost use Rattle.std.specs.Prelude.{◌≡◌, ◌<◌, [], ◌∷◌, ◌++◌, length, IfOk, IfSome, IsTrue, OnOk};
 ghost use Rattle.std.specs.List.{All};
 ghost use Rattle.convoy_around.specs.Around.{is_span};
 ghost use Rattle.convoy_scenario.specs.Room.{HasRoom};
@@ -20,30 +20,17 @@ use std::alloc::{AllocError, Global};
 use std::sync::Wait;
 use std::thread::Threads;
 
-/// Searches for the greatest latency of each message of a scenario at each group that it goes to, in the
-/// order of their numbers, counted from the message's own issue. A message of which the window and that of another
-/// one are longer than one may be has no row (docs/FORMATS.md, "Windows of the target").
+/// Searches for the greatest latency of each message of a scenario at each group that it goes to, in the order of their
+/// numbers, counted from the message's own issue. A message of which the window and that of another one are longer than
+/// one may be has no row (docs/FORMATS.md, "Windows of the target"). Where a span is given, each search is of the
+/// scenario around its target ([`scenario_at`](crate::scenario_at)), and each message has its rows.
+///
 /// Each search goes as [`latency_answer`](convoy_commands::latency_answer) does with these options: by
 /// their limit of tickets, by their bounds or both ways, and with their number of workers. Where memory
 /// runs out for one of them, that is what its row tells, and the others are searched all the same. As many
 /// searches are made at a time as there are watches, and each is watched by one of them. Fails where there
 /// is no memory for the rows, and else never.
 pub fn survey<R: Threads + Wait + Sync, W: Watch + Sync>(
-    rt: &R,
-    alloc: Global,
-    scenario: &Scenario,
-    options: &Options,
-    watches: &[W],
-) -> Result<Vec<Surveyed>, AllocError>
-    requires { 0 < length watches.now }
-    ensures { IfOk result (λ rows. AreSurveyed options.now None scenario.now rows.items) }
-{
-    survey_each(rt, alloc, None, scenario, options, watches)
-}
-
-/// The same where a span is given: each search is then of the scenario around its target
-/// ([`around_at`](convoy_around::around_at)), and each message has its rows.
-pub fn survey_around<R: Threads + Wait + Sync, W: Watch + Sync>(
     rt: &R,
     alloc: Global,
     span: Option<u32>,
@@ -56,25 +43,25 @@ pub fn survey_around<R: Threads + Wait + Sync, W: Watch + Sync>(
     ensures { IfOk result (λ rows. AreSurveyed options.now span scenario.now rows.items) }
 {
     around_forgets_targets();
-    match span {
-        Some(_) => {
-            let still = still(alloc, scenario)?;
-            let rows = survey_each(rt, alloc, span, &still, options, watches)?;
-            Ok(rows)
-        }
-        None => {
-            let rows = survey_each(rt, alloc, span, scenario, options, watches)?;
-            Ok(rows)
-        }
-    }
+    let still = with_rows(alloc, span, scenario)?;
+    let rows = survey_each(rt, alloc, span, &still, options, watches)?;
+    Ok(rows)
 }
 
-/// The scenario with its messages as they are where none waits, so that each may be the target.
-fn still(alloc: Global, scenario: &Scenario) -> Result<Scenario, AllocError>
-    ensures { IfOk result (λ still. (span : ℕ) → still ≡ with_rows (Some span) scenario.now) }
+/// The scenario of which each target has rows, in memory of its own: the same, or where a span is given the one in
+/// which no message waits, so that each may be the target. Fails where memory runs out, and else never.
+pub fn with_rows(
+    alloc: Global,
+    span: Option<u32>,
+    scenario: &Scenario,
+) -> Result<Scenario, AllocError>
+    ensures { IfOk result (λ other. other ≡ with_rows span scenario.now) }
 {
     let (message, group) = (scenario.target_message(), scenario.target_group());
-    around_at(alloc, scenario, 0, message, group)
+    match span {
+        Some(_) => around_at(alloc, scenario, 0, message, group),
+        None => scenario.copy(),
+    }
 }
 
 /// The rows of the targets of a scenario, each around its target where a span is given.
@@ -100,8 +87,8 @@ fn survey_each<R: Threads + Wait + Sync, W: Watch + Sync>(
     Ok(rows)
 }
 
-/// The rows of [`survey`], each by a search of the caller's own, which is given the numbers of a message and of a
-/// group that it goes to, and a watch. A row tells what `find` answers for its target, and that memory ran out just where
+/// The rows of [`survey`], each by a search of the caller's own, which is given the numbers of a message and of a group
+/// that it goes to, and a watch. A row tells what `find` answers for its target, and that memory ran out just where
 /// `find` answers so. Fails where there is no memory for the rows, and else never.
 pub fn survey_by<
     R: Threads + Sync,

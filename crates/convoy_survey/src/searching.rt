@@ -31,8 +31,8 @@ pub fn find<R: Threads + Wait + Sync, W: Watch + Sync>(
     finding_of(alloc, instance, options, &outcome)
 }
 
-/// What a search finds of the latency of a message at a group that it goes to, around that target where a span is given.
-/// Fails where memory runs out, and else never.
+/// What a search finds of the latency of a message at a group that it goes to, around that target where a span is
+/// given. Fails where memory runs out, and else never.
 pub(crate) fn find_target<R: Threads + Wait + Sync, W: Watch + Sync>(
     rt: &R,
     alloc: Global,
@@ -47,13 +47,14 @@ pub(crate) fn find_target<R: Threads + Wait + Sync, W: Watch + Sync>(
     requires span { IfSome span (λ n. IsTrue (is_span n)) }
     ensures { MayAnswer options.now span scenario.now message group result }
 {
-    let asked = target_scenario(alloc, span, scenario, message, group)?;
+    let asked = scenario_at(alloc, span, scenario, message, group)?;
     let instance = Instance::of(alloc, asked)?;
     find(rt, alloc, &instance, options, watch)
 }
 
-/// The scenario in which the latency of that message at that group is asked.
-fn target_scenario(
+/// The scenario in which the latency of a message at a group that it goes to is asked, in memory of its own: the same
+/// with that target, or where a span is given the one around it. Fails where memory runs out, and else never.
+pub fn scenario_at(
     alloc: Global,
     span: Option<u32>,
     scenario: &Scenario,

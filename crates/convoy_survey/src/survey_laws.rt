@@ -1,7 +1,7 @@
 //! The laws of surveys and of tables of ceilings. Each is the one clause of a function that does nothing; a
 //! caller that needs the law calls the function.
 
-ghost use Rattle.convoy_survey.specs.SurveyLaws.{AroundHasEachTarget, CeilingRowsAtAllEnclose, CeilingRowsEnclose, RowVerdictsHold, RowsAreLatencies, RowsAtAllEnclose, RowsEnclose};
+ghost use Rattle.convoy_survey.specs.SurveyLaws.{AroundHasEachTarget, CeilingRowsAtAllEnclose, CeilingRowsAtAllHoldThrough, CeilingRowsEnclose, RowVerdictsHold, RowsAreLatencies, RowsAtAllEnclose, RowsEnclose};
 
 use convoy_around::around_laws::around_is_scenario;
 use convoy_commands::command_laws::verdicts_hold;
@@ -51,4 +51,10 @@ pub fn ceiling_rows_enclose()
 /// latency that is told at one of them, and none has one above the ceiling at any.
 pub fn ceiling_rows_at_all_enclose()
     ensures { CeilingRowsAtAllEnclose }
+{}
+
+/// The ceiling through outages of the row of a message at all groups holds at each of them.
+#[tactic(auto, using(crate::proofs::CeilingRows::hold_through))]
+pub fn ceiling_rows_at_all_hold_through()
+    ensures { CeilingRowsAtAllHoldThrough }
 {}

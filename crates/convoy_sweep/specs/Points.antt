@@ -6,7 +6,9 @@ use Rattle.convoy_lines.specs.Results.{◌>>=◌}
 use Rattle.convoy_draft.specs.declared.fault.ScenarioFault.{ScenarioFault}
 use Rattle.convoy_draft.specs.declared.fault.ScenarioFault.TheVariants.{Memory}
 use Rattle.convoy_scenario.specs.Scenario.{Scenario}
+use Rattle.convoy_toml.specs.declared.around.Around.{Around}
 use Rattle.convoy_toml.specs.declared.asked.Asked.{Asked}
+use Rattle.convoy_toml.specs.Around.{asked_around}
 use Rattle.convoy_toml.specs.Reading.{scenario_of_text_by, scenario_of_written, table_of_text}
 use Rattle.convoy_toml.specs.Shape.{WrittenScenario, written_of_table}
 use Rattle.convoy_toml.specs.Times.{tick_of}
@@ -81,9 +83,9 @@ with_second (Some setting) (Some given) written = with_key setting.key given wri
 abbrev pub written_at : Sweep → Point → WrittenScenario → WrittenScenario
 written_at sweep point written = with_second sweep.second point.second (with_key sweep.first.key point.first written)
 
--- the scenario at a point of a text that is written so: that of what is written there
-abbrev pub scenario_at : Sweep → WrittenScenario → Point → Result Scenario ScenarioFault
-scenario_at sweep written point = scenario_of_written (written_at sweep point written)
+-- the scenario at a point of a text that is written so: that of what is written there, or where all is asked around the target the scenario around that
+abbrev pub scenario_at : Option Around → Sweep → WrittenScenario → Point → Result Scenario ScenarioFault
+scenario_at around sweep written point = scenario_of_written (written_at sweep point written) >>= asked_around around
 
 -- the fault of a point, at which what is written makes no scenario
 abbrev pub told_at : Point → ScenarioFault → SweepFault
@@ -91,21 +93,22 @@ told_at point Memory = Text Memory
 told_at point cause = Value point cause
 
 -- a point with the scenario there, or the fault of the point
-abbrev pub made_at : Sweep → WrittenScenario → Point → Result Made SweepFault
-made_at sweep written point = result_map_both (λ scenario. record { point = point; scenario = scenario }) (told_at point) (scenario_at sweep written point)
+abbrev pub made_at : Option Around → Sweep → WrittenScenario → Point → Result Made SweepFault
+made_at around sweep written point =
+    result_map_both (λ scenario. record { point = point; scenario = scenario }) (told_at point) (scenario_at around sweep written point)
 
 -- the points with their scenarios, or the fault of the first that makes none
-abbrev pub all_made : Sweep → WrittenScenario → List Point → Result (List Made) SweepFault
-all_made sweep written [] = Ok []
-all_made sweep written (point ∷ points) = do
-  first ← made_at sweep written point
-  others ← all_made sweep written points
+abbrev pub all_made : Option Around → Sweep → WrittenScenario → List Point → Result (List Made) SweepFault
+all_made around sweep written [] = Ok []
+all_made around sweep written (point ∷ points) = do
+  first ← made_at around sweep written point
+  others ← all_made around sweep written points
   Ok (first ∷ others)
 
 -- the points of a sweep of the text that is written so, with this length of a tick, and their scenarios
-abbrev pub made_in : Sweep → Bool → WrittenScenario → Option ℕ → Result (List Made) SweepFault
-made_in sweep envelope written tick =
-    ranges_in written tick envelope sweep >>= λ ranges. all_made sweep (held tick written) (points_of envelope ranges)
+abbrev pub made_in : Option Around → Sweep → Bool → WrittenScenario → Option ℕ → Result (List Made) SweepFault
+made_in around sweep envelope written tick =
+    ranges_in written tick envelope sweep >>= λ ranges. all_made around sweep (held tick written) (points_of envelope ranges)
 
 -- TEXTS
 -- what a text writes of a scenario, where that is asked
@@ -135,7 +138,7 @@ prepared_of sweep envelope asked text = do
   written ← in_text (written_of_text asked text)
   scenario ← in_text (scenario_of_text_by asked text)
   tick ← in_text (tick_of written)
-  made ← made_in sweep envelope written tick
+  made ← made_in asked.around sweep envelope written tick
   Ok (record { scenario = scenario; made = made })
 
 -- what was prepared, without what the text holds beside its scenario

@@ -6,7 +6,8 @@ ghost use Rattle.convoy_sweep.specs.Keys.{at_with, counted, delay_with, last_of,
 use super::keys::names_link;
 use super::kinds::{Given, SweepKey};
 use convoy_toml::{
-    WrittenLink, WrittenMulticast, WrittenScenario, WrittenTime, copy_ends, copy_name, copy_names,
+    WrittenLink, WrittenMulticast, WrittenScenario, WrittenTime, copy_agreements, copy_ends,
+    copy_name, copy_names,
 };
 use std::alloc::{AllocError, Global};
 
@@ -27,6 +28,7 @@ pub fn with_key(
         least: written.least,
         groups: copy_names(alloc, &written.groups)?,
         links: links_with(alloc, key, given, &written.links)?,
+        agreements: copy_agreements(alloc, &written.agreements)?,
         multicasts: messages_with(alloc, key, given, &written.multicasts)?,
         target_message: written.target_message.copy()?,
         target_group: written.target_group.copy()?,
@@ -72,6 +74,7 @@ fn link_with(
         ends: copy_ends(alloc, &link.ends)?,
         least: least_with(key, given, link),
         most: most_with(key, given, link),
+        stamps: link.stamps,
     })
 }
 

@@ -13,8 +13,8 @@ use super::kinds::{Given, Point, Setting, Sweep};
 use super::points::{points_of, ranges_in};
 use convoy_scenario::{Duration, Scenario, ScenarioFault};
 use convoy_toml::{
-    Asked, Input, WrittenScenario, read_table, read_toml_asked, scenario_of_written, tick_of,
-    written_of_table,
+    Asked, Input, WrittenScenario, asked_around, read_table, read_toml_asked, scenario_of_written,
+    tick_of, written_of_table,
 };
 use std::alloc::{AllocError, Global};
 
@@ -33,9 +33,9 @@ pub struct Prepared {
     pub made: Vec<Made>,
 }
 
-/// Reads a text, where that is asked, and makes the scenario at each point of a sweep of it, in the order of the rows; as
-/// windows, if that is asked. The first fault is told: of the text itself, then of the first setting and of the second,
-/// and then of the first point at which the text makes no scenario.
+/// Reads a text, where that is asked, and makes the scenario at each point of a sweep of it, in the order of the rows,
+/// around its target where all is asked so; as windows, if that is asked. The first fault is told: of the text itself,
+/// then of the first setting and of the second, and then of the first point at which the text makes no scenario.
 pub fn prepare(
     alloc: Global,
     sweep: &Sweep,
@@ -53,7 +53,7 @@ pub fn prepare(
     let written = written_of_text(alloc, asked, text)?;
     let input = read_toml_asked(alloc, text, asked)?;
     let tick = tick_of(alloc, &written)?;
-    let made = made_in(alloc, sweep, envelope, written, tick)?;
+    let made = made_in(alloc, asked, sweep, envelope, written, tick)?;
     Ok(Prepared { input, made })
 }
 
@@ -73,17 +73,18 @@ fn written_of_text(
 /// The points of a sweep of the text that is written so, with this length of a tick, and their scenarios.
 fn made_in(
     alloc: Global,
+    asked: &Asked,
     sweep: &Sweep,
     envelope: bool,
     written: WrittenScenario,
     tick: Option<Duration>,
 ) -> Result<Vec<Made>, SweepFault>
-    ensures { IsUnlessMemory (Text Memory) (made_in sweep.now envelope written tick) (listed result) }
+    ensures { IsUnlessMemory (Text Memory) (made_in asked.now.around sweep.now envelope written tick) (listed result) }
 {
     let ranges = ranges_in(&written, length_of(&tick), envelope, sweep)?;
     let points = points_of(alloc, envelope, ranges)?;
     let held = held(tick, written);
-    all_made(alloc, sweep, &held, &points)
+    all_made(alloc, asked, sweep, &held, &points)
 }
 
 /// The nanoseconds of a tick, if there is one.
@@ -108,15 +109,16 @@ fn held(tick: Option<Duration>, written: WrittenScenario) -> WrittenScenario
 /// These points with their scenarios, or the fault of the first that makes none.
 fn all_made(
     alloc: Global,
+    asked: &Asked,
     sweep: &Sweep,
     written: &WrittenScenario,
     points: &[Point],
 ) -> Result<Vec<Made>, SweepFault>
-    ensures { IsUnlessMemory (Text Memory) (all_made sweep.now written.now points.now) (listed result) }
+    ensures { IsUnlessMemory (Text Memory) (all_made asked.now.around sweep.now written.now points.now) (listed result) }
 {
     let mut made = Vec::new(alloc);
     for point in points {
-        let one = made_at(alloc, sweep, written, *point)?;
+        let one = made_at(alloc, asked, sweep, written, *point)?;
         made.push(one)?;
     }
     Ok(made)
@@ -125,13 +127,14 @@ fn all_made(
 /// A point with its scenario.
 fn made_at(
     alloc: Global,
+    asked: &Asked,
     sweep: &Sweep,
     written: &WrittenScenario,
     point: Point,
 ) -> Result<Made, SweepFault>
-    ensures { IsUnlessMemory (Text Memory) (made_at sweep.now written.now point) result }
+    ensures { IsUnlessMemory (Text Memory) (made_at asked.now.around sweep.now written.now point) result }
 {
-    match scenario_at(alloc, sweep, written, point) {
+    match scenario_at(alloc, asked, sweep, written, point) {
         Ok(scenario) => Ok(Made { point, scenario }),
         Err(cause) => Err(told_at(point, cause)),
     }
@@ -147,17 +150,19 @@ fn told_at(point: Point, cause: ScenarioFault) -> SweepFault
     }
 }
 
-/// The scenario at a point.
+/// The scenario at a point that is asked about: that of what is written there, or around its target.
 fn scenario_at(
     alloc: Global,
+    asked: &Asked,
     sweep: &Sweep,
     written: &WrittenScenario,
     point: Point,
 ) -> Result<Scenario, ScenarioFault>
-    ensures { IsUnlessMemory Memory (scenario_at sweep.now written.now point) result }
+    ensures { IsUnlessMemory Memory (scenario_at asked.now.around sweep.now written.now point) result }
 {
     let changed = written_at(alloc, sweep, point, written)?;
-    Ok(scenario_of_written(alloc, &changed)?)
+    let scenario = scenario_of_written(alloc, &changed)?;
+    asked_around(alloc, scenario, asked.around)
 }
 
 /// What is written at a point. Fails where memory runs out, and else never.

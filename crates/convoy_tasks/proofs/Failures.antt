@@ -9,7 +9,7 @@ use Rattle.convoy_commands.specs.declared.fault.Fault.TheVariants.{Memory, Readi
 use Rattle.convoy_commands.specs.Faults.{told_of_reading}
 use Rattle.convoy_scenario.specs.Scenario.{Scenario}
 use Rattle.convoy_streams.proofs.FailureCounts.{after_pieces, in_nothing, none_in_pieces}
-use Rattle.convoy_tasks.specs.declared.task.Task.{Task}
+use Rattle.convoy_task_list.specs.declared.task.Task.{Task}
 use Rattle.convoy_tasks.specs.Tasks.{longest_for, task_says}
 use Rattle.convoy_tasks.proofs.TaskFaults.{says_no_device}
 use Rattle.convoy_commands.proofs.NoDevice.{IsNoDevice}

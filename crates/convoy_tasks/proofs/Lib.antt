@@ -2,12 +2,3 @@ pub mod Failures
 pub mod ScenarioReads
 pub mod TaskFaults
 pub mod TextRuns
-pub mod Withins
-pub mod Yeses
-pub mod BatchFailures
-pub mod BatchRuns
-pub mod Blocks
-pub mod Labels
-pub mod KeptRows
-pub mod JobCells
-pub mod WorkedCells

@@ -6,7 +6,7 @@ use Rattle.convoy_streams.specs.Devices.{Answer}
 use Rattle.convoy_streams.specs.Reads.{StopsReading}
 use Rattle.convoy_commands.specs.declared.limits.TheConstants.{LONGEST_JOB}
 use Rattle.convoy_commands.specs.Faults.{told_of_reading}
-use Rattle.convoy_tasks.specs.Abouts.{ReadsScenario}
+use Rattle.convoy_tasks.specs.WantedReads.{ReadsScenario}
 
 -- reading stopped
 pub unread_scenario : (most_reads : ℕ) (reads : List Answer) (cause : ReadFault) → StopsReading LONGEST_JOB most_reads reads cause →

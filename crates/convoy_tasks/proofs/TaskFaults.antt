@@ -7,6 +7,7 @@ use Rattle.convoy_draft.specs.declared.duration.TimeUnit.{TimeUnit}
 use Rattle.convoy_scenario.specs.Scenario.{Scenario}
 use Rattle.convoy_toml.specs.declared.asked.Asked.{Asked}
 use Rattle.convoy_branch.specs.Options.{Settings}
+use Rattle.convoy_outages.specs.declared.outage.Outage.{Outage}
 use Rattle.convoy_certificate.specs.Certificate.{Certificate}
 use Rattle.convoy_certificate.specs.Reading.{certificate_of}
 use Rattle.convoy_certificate.specs.TextForms.{form_of}
@@ -23,6 +24,7 @@ use Rattle.convoy_commands.specs.declared.telling.Telling.{Telling}
 use Rattle.convoy_commands.specs.Asks.{AskSays}
 use Rattle.convoy_commands.specs.First.{first_text}
 use Rattle.convoy_commands.specs.Inputs.{reply_of_reading, reply_to_form}
+use Rattle.convoy_commands.specs.Ceilings.{CeilingSays}
 use Rattle.convoy_commands.specs.Faults.{told_of_kinds, told_of_plan, told_of_ranges, told_of_trace}
 use Rattle.convoy_commands.specs.Ranging.{RangesSay, links_told}
 use Rattle.convoy_commands.specs.Replies.{fine}
@@ -58,19 +60,31 @@ use Rattle.convoy_sweep.specs.declared.fault.SweepFault.{SweepFault}
 use Rattle.convoy_sweep.specs.declared.fault.SweepFault.TheVariants as sweeps
 use Rattle.convoy_sweep.specs.declared.kinds.Setting.{Setting}
 use Rattle.convoy_sweep.specs.declared.kinds.Sweep.{Sweep as AskedSweep}
-use Rattle.convoy_tasks.specs.declared.task.Task.{Task}
-use Rattle.convoy_tasks.specs.declared.task.Task.TheVariants.{First, Tell, Check, Explain, Draw, Ceiling, Ceilings, Kinds, WorstKind, Fits, Analyse, Latency, Survey, WhatIf, Report, Budget, Order, Listing, Plan, Placing, PlanCertificate, PlanCeiling, CeilingPlacing, CheckPlan, Ranges, TraceRanges, TraceTable, Beside, Sweep, Curve, BatchTable}
-use Rattle.convoy_tasks.specs.Abouts.{check_says}
+use Rattle.convoy_task_list.specs.declared.of_certificates.CertificateTask.{CertificateTask}
+use Rattle.convoy_task_list.specs.declared.of_certificates.CertificateTask.TheVariants as certificates
+use Rattle.convoy_task_list.specs.declared.of_kinds.KindsTask.{KindsTask}
+use Rattle.convoy_task_list.specs.declared.of_kinds.KindsTask.TheVariants as kinds_tasks
+use Rattle.convoy_task_list.specs.declared.of_plans.PlanTask.{PlanTask}
+use Rattle.convoy_task_list.specs.declared.of_plans.PlanTask.TheVariants as plan_tasks
+use Rattle.convoy_task_list.specs.declared.of_scenarios.ScenarioTask.{ScenarioTask}
+use Rattle.convoy_task_list.specs.declared.of_scenarios.ScenarioTask.TheVariants as scenario_tasks
+use Rattle.convoy_task_list.specs.declared.of_traces.TraceTask.{TraceTask}
+use Rattle.convoy_task_list.specs.declared.of_traces.TraceTask.TheVariants as trace_tasks
+use Rattle.convoy_task_list.specs.declared.searches.SearchTask.{SearchTask}
+use Rattle.convoy_task_list.specs.declared.searches.SearchTask.TheVariants as searches
+use Rattle.convoy_task_list.specs.declared.task.Task.{Task}
+use Rattle.convoy_task_list.specs.declared.task.Task.TheVariants.{Tell, Scenario as OfScenario, Ceilings, Search, BatchTable, Plan, Certificate as OfCertificate, Kinds, Trace, Ranges}
+use Rattle.convoy_text_answers.specs.Abouts.{check_says}
 use Rattle.convoy_traces.specs.declared.fault.TraceFault.{TraceFault}
 use Rattle.convoy_traces.specs.declared.fault.TraceFault.TheVariants as traces
 use Rattle.convoy_fits_told.specs.declared.skew.Skew.{Skew}
-use Rattle.convoy_tasks.specs.FitsAnswers.{JudgedSays, is_unmeasured, says_by, trace_says}
-use Rattle.convoy_tasks.specs.KindAnswers.{AreFaultyKinds}
-use Rattle.convoy_tasks.specs.LinkAnswers.{beside_reply, beside_says, links_told as links_told_of}
+use Rattle.convoy_text_answers.specs.FitsAnswers.{JudgedSays, is_unmeasured, says_by, trace_says}
+use Rattle.convoy_text_answers.specs.KindAnswers.{AreFaultyKinds}
+use Rattle.convoy_text_answers.specs.LinkAnswers.{beside_reply, beside_says, links_told as links_told_of}
 use Rattle.convoy_trace_ranges.specs.Answers.{trace_ranges_text}
 use Rattle.convoy_trace_ranges.specs.Beside.{beside_told}
 use Rattle.convoy_trace_ranges.specs.LinkTables.{trace_table_text}
-use Rattle.convoy_tasks.specs.Tasks.{task_says}
+use Rattle.convoy_tasks.specs.Tasks.{certificate_says, kinds_say, plan_says, scenario_says, search_says, task_says, trace_task_says}
 
 -- the fault of an answer is that of the reply
 fault_of_fine : (answer : Result (List ℕ) Fault) (fault : Fault) → Err fault ≡ fine answer → answer ≡ Err fault
@@ -115,9 +129,15 @@ explained_no_device : (with_ceiling : Bool) (unit : Option TimeUnit) (text : Lis
 explained_no_device true unit text fault says = explain_no_device unit text fault says
 explained_no_device false unit text fault says = explain_no_device unit text fault says
 
-ceilings_no_device : (format : Format) (asked : Asked) (unit : Option TimeUnit) (group : Option (List ℕ)) (text : List ℕ) (fault : Fault) → CeilingsSay format asked unit group text (Err fault) → IsNoDevice fault
-ceilings_no_device format asked unit group text fault (inl faulty) = search_no_device asked text fault faulty
-ceilings_no_device format asked unit group text fault (inr unknown) = rw unknown.told tt
+ceiling_no_device : (outage : Option Outage) (asked : Asked) (unit : Option TimeUnit) (text : List ℕ) (fault : Fault) → CeilingSays outage asked unit text (Err fault) → IsNoDevice fault
+ceiling_no_device outage asked unit text fault (inl faulty) = search_no_device asked text fault faulty
+ceiling_no_device outage asked unit text fault (inr refused) = rw refused.told tt
+
+ceilings_no_device : (format : Format) (outage : Option Outage) (asked : Asked) (unit : Option TimeUnit) (group : Option (List ℕ)) (text : List ℕ) (fault : Fault)
+    → CeilingsSay format outage asked unit group text (Err fault) → IsNoDevice fault
+ceilings_no_device format outage asked unit group text fault (inl faulty) = search_no_device asked text fault faulty
+ceilings_no_device format outage asked unit group text fault (inr (inl unknown)) = rw unknown.told tt
+ceilings_no_device format outage asked unit group text fault (inr (inr refused)) = rw refused.told tt
 
 latency_no_device : (with_ceiling : Bool) (asked : Asked) (settings : Settings) (text : List ℕ) (fault : Fault) → latency_says with_ceiling asked settings text (Err fault) → IsNoDevice fault
 latency_no_device true asked settings text fault says = search_no_device asked text fault says
@@ -244,40 +264,60 @@ beside_no_device : (wanted : Option Scenario) (format : Format) (unit : Option T
 beside_no_device None format unit text fault is = cc
 beside_no_device (Some scenario) format unit text fault is = told_beside_no_device (beside_told format unit scenario text) fault is
 
-pub says_no_device : (task : Task) (wanted : Option Scenario) (text : List ℕ) (fault : Fault) → task_says task wanted text (Err fault) → IsNoDevice fault
-says_no_device (First asked) wanted text fault says = first_no_device asked text fault (fault_of_fine (first_text asked text) fault says)
-says_no_device (Tell telling) wanted text fault says = tell_no_device telling text fault says
-says_no_device (Check tells unit limit) wanted text fault says =
+scenario_says_no_device : (what : ScenarioTask) (asked : Asked) (text : List ℕ) (fault : Fault) → scenario_says what asked text (Err fault) → IsNoDevice fault
+scenario_says_no_device scenario_tasks.First asked text fault says = first_no_device asked text fault (fault_of_fine (first_text asked text) fault says)
+scenario_says_no_device scenario_tasks.Text asked text fault says = search_no_device asked text fault says
+scenario_says_no_device (scenario_tasks.Ceiling simulations outage unit) asked text fault says = ceiling_no_device outage asked unit text fault says
+
+search_says_no_device : (what : SearchTask) (asked : Asked) (settings : Settings) (text : List ℕ) (fault : Fault) → search_says what asked settings text (Err fault) → IsNoDevice fault
+search_says_no_device searches.Analyse asked settings text fault says = search_no_device asked text fault says
+search_says_no_device (searches.Latency with_ceiling) asked settings text fault says = latency_no_device with_ceiling asked settings text fault says
+search_says_no_device (searches.Survey format with_ceilings) asked settings text fault says = search_no_device asked text fault says
+search_says_no_device (searches.WhatIf format shows_all) asked settings text fault says = what_if_no_device format shows_all asked settings text fault says
+search_says_no_device searches.Report asked settings text fault says = report_no_device asked settings text fault says
+search_says_no_device (searches.Budget format of_all of_ceiling) asked settings text fault says = budget_no_device format of_all of_ceiling asked settings text fault says
+search_says_no_device (searches.Order format wanted with_reasons) asked settings text fault says = search_no_device asked text fault says
+search_says_no_device (searches.Listing wanted) asked settings text fault says = search_no_device asked text fault says
+search_says_no_device (searches.Sweep format sweep envelope) asked settings text fault says = sweep_no_device format sweep envelope asked settings text fault says
+search_says_no_device (searches.Curve setting envelope) asked settings text fault says = curve_no_device setting envelope asked settings text fault says
+
+plan_says_no_device : (what : PlanTask) (wanted : Wanted) (asked : Asked) (text : List ℕ) (fault : Fault) → plan_says what wanted asked text (Err fault) → IsNoDevice fault
+plan_says_no_device (plan_tasks.Table format with_reasons first options) wanted asked text fault says = plan_no_device format wanted with_reasons first asked options text fault says
+plan_says_no_device (plan_tasks.Scenario first options) wanted asked text fault says = placing_no_device wanted first asked options text fault says
+plan_says_no_device (plan_tasks.Proof options) wanted asked text fault says = plan_proof_no_device wanted asked text fault says
+plan_says_no_device (plan_tasks.Ceiling format unit) wanted asked text fault says = plan_ceiling_no_device format wanted asked unit text fault says
+plan_says_no_device plan_tasks.CeilingScenario wanted asked text fault says = ceiling_placing_no_device wanted asked text fault says
+plan_says_no_device plan_tasks.Check wanted asked text fault says = plan_check_no_device wanted asked text fault says
+
+certificate_says_no_device : (what : CertificateTask) (wanted : Option Scenario) (unit : Option TimeUnit) (limit : Option ℕ) (text : List ℕ) (fault : Fault)
+    → certificate_says what wanted unit limit text (Err fault) → IsNoDevice fault
+certificate_says_no_device (certificates.Check tells) wanted unit limit text fault says =
     about_no_device wanted tells unit text fault (fault_within limit NotChecked (check_says wanted tells unit) text fault says)
-says_no_device (Explain with_ceiling unit limit) wanted text fault says =
+certificate_says_no_device (certificates.Explain with_ceiling) wanted unit limit text fault says =
     explained_no_device with_ceiling unit text fault (fault_within limit NotChecked (explain_says with_ceiling unit) text fault says)
-says_no_device (Draw unit limit) wanted text fault says =
+certificate_says_no_device certificates.Draw wanted unit limit text fault says =
     draw_no_device unit text fault (fault_within limit NotChecked (AskSays (askings.Draw unit)) text fault says)
-says_no_device (Ceiling simulations asked unit) wanted text fault says = search_no_device asked text fault says
-says_no_device (Ceilings format group simulations asked unit) wanted text fault says = ceilings_no_device format asked unit (option_map string_bytes group) text fault says
-says_no_device (Kinds format unit) wanted text fault says = kinds_no_device text fault says
-says_no_device (WorstKind simulations unit) wanted text fault says = kinds_no_device text fault says
-says_no_device (Fits skew unit) wanted text fault says = trace_no_device wanted skew unit text fault says
-says_no_device (Analyse asked options) wanted text fault says = search_no_device asked text fault says
-says_no_device (Latency with_ceiling asked options) wanted text fault says = latency_no_device with_ceiling asked options text fault says
-says_no_device (Survey format with_ceilings asked options) wanted text fault says = search_no_device asked text fault says
-says_no_device (WhatIf format shows_all asked options) wanted text fault says = what_if_no_device format shows_all asked options text fault says
-says_no_device (Report asked options) wanted text fault says = report_no_device asked options text fault says
-says_no_device (Budget format of_all of_ceiling asked options) wanted text fault says = budget_no_device format of_all of_ceiling asked options text fault says
-says_no_device (Order format wanting with_reasons asked options) wanted text fault says = search_no_device asked text fault says
-says_no_device (Ranges rules) wanted text fault says = ranges_no_device rules text fault says
-says_no_device (TraceRanges rules unit) wanted text fault says =
+
+kinds_say_no_device : (what : KindsTask) (unit : Option TimeUnit) (text : List ℕ) (fault : Fault) → kinds_say what unit text (Err fault) → IsNoDevice fault
+kinds_say_no_device (kinds_tasks.Table format) unit text fault says = kinds_no_device text fault says
+kinds_say_no_device (kinds_tasks.Worst simulations) unit text fault says = kinds_no_device text fault says
+
+trace_task_no_device : (what : TraceTask) (wanted : Option Scenario) (text : List ℕ) (fault : Fault) → trace_task_says what wanted text (Err fault) → IsNoDevice fault
+trace_task_no_device (trace_tasks.Fits skew unit) wanted text fault says = trace_no_device wanted skew unit text fault says
+trace_task_no_device (trace_tasks.Ranges rules unit) wanted text fault says =
     links_no_device (trace_ranges_text rules unit text) fault (fault_of_fine (links_told_of (trace_ranges_text rules unit text)) fault says)
-says_no_device (TraceTable format unit) wanted text fault says =
+trace_task_no_device (trace_tasks.Table format unit) wanted text fault says =
     links_no_device (trace_table_text format unit text) fault (fault_of_fine (links_told_of (trace_table_text format unit text)) fault says)
-says_no_device (Beside format unit) wanted text fault says = beside_no_device wanted format unit text fault says
-says_no_device (Listing wanting asked options) wanted text fault says = search_no_device asked text fault says
-says_no_device (Plan format wanting with_reasons first asked options) wanted text fault says = plan_no_device format wanting with_reasons first asked options text fault says
-says_no_device (Placing wanting first asked options) wanted text fault says = placing_no_device wanting first asked options text fault says
-says_no_device (PlanCertificate wanting asked options) wanted text fault says = plan_proof_no_device wanting asked text fault says
-says_no_device (PlanCeiling format wanting asked unit) wanted text fault says = plan_ceiling_no_device format wanting asked unit text fault says
-says_no_device (CeilingPlacing wanting asked) wanted text fault says = ceiling_placing_no_device wanting asked text fault says
-says_no_device (CheckPlan wanting asked) wanted text fault says = plan_check_no_device wanting asked text fault says
-says_no_device (Sweep format sweep envelope asked options) wanted text fault says = sweep_no_device format sweep envelope asked options text fault says
-says_no_device (Curve setting envelope asked options) wanted text fault says = curve_no_device setting envelope asked options text fault says
+trace_task_no_device (trace_tasks.Beside format unit) wanted text fault says = beside_no_device wanted format unit text fault says
+
+pub says_no_device : (task : Task) (wanted : Option Scenario) (text : List ℕ) (fault : Fault) → task_says task wanted text (Err fault) → IsNoDevice fault
+says_no_device (Tell telling) wanted text fault says = tell_no_device telling text fault says
+says_no_device (OfScenario asked what) wanted text fault says = scenario_says_no_device what asked text fault says
+says_no_device (Ceilings format group simulations outage asked unit) wanted text fault says = ceilings_no_device format outage asked unit (option_map string_bytes group) text fault says
+says_no_device (Search asked options what) wanted text fault says = search_says_no_device what asked options text fault says
 says_no_device (BatchTable format asked options tells_status) wanted text fault says = rw says.0 tt
+says_no_device (Plan targets asked what) wanted text fault says = plan_says_no_device what targets asked text fault says
+says_no_device (OfCertificate unit limit what) wanted text fault says = certificate_says_no_device what wanted unit limit text fault says
+says_no_device (Kinds unit what) wanted text fault says = kinds_say_no_device what unit text fault says
+says_no_device (Trace what) wanted text fault says = trace_task_no_device what wanted text fault says
+says_no_device (Ranges rules) wanted text fault says = ranges_no_device rules text fault says

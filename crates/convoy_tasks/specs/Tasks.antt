@@ -26,98 +26,112 @@ use Rattle.convoy_plan_ceilings.specs.Answers.{CeilingPlacingSays, PlanCeilingSa
 use Rattle.convoy_plan_proof.specs.PlanProofs.{PlanProofSays}
 use Rattle.convoy_ranges.specs.declared.fault.TheConstants.{MOST_BYTES}
 use Rattle.convoy_sweep.specs.Told.{CurveTold, SweepTold}
-use Rattle.convoy_tasks.specs.declared.batch_table.TheConstants.{LONGEST_BATCH}
-use Rattle.convoy_tasks.specs.BatchTables.{BatchTableSays}
-use Rattle.convoy_tasks.specs.declared.task.Task.{Task}
-use Rattle.convoy_tasks.specs.declared.task.Task.TheVariants.{First, Tell, Check, Explain, Draw, Ceiling, Ceilings, Kinds, WorstKind, Fits, Analyse, Latency, Survey, WhatIf, Report, Budget, Order, Listing, Plan, Placing, PlanCertificate, PlanCeiling, CeilingPlacing, CheckPlan, Ranges, TraceRanges, TraceTable, Beside, Sweep, Curve, BatchTable}
-use Rattle.convoy_tasks.specs.Abouts.{check_says}
-use Rattle.convoy_tasks.specs.FitsAnswers.{trace_says}
-use Rattle.convoy_tasks.specs.KindAnswers.{KindTableSays, WorstKindSays}
-use Rattle.convoy_tasks.specs.LinkAnswers.{TraceRangesSay, TraceTableSays, beside_says}
+use Rattle.convoy_branch.specs.Options.{Settings}
+use Rattle.convoy_draft.specs.declared.duration.TimeUnit.{TimeUnit}
+use Rattle.convoy_toml.specs.declared.asked.Asked.{Asked}
+use Rattle.convoy_best_order.specs.declared.wanted.Wanted.{Wanted}
+use Rattle.convoy_batches.specs.declared.batch_table.TheConstants.{LONGEST_BATCH}
+use Rattle.convoy_batches.specs.BatchTables.{BatchTableSays}
+use Rattle.convoy_text_answers.specs.Abouts.{check_says}
+use Rattle.convoy_text_answers.specs.FitsAnswers.{trace_says}
+use Rattle.convoy_text_answers.specs.KindAnswers.{KindTableSays, WorstKindSays}
+use Rattle.convoy_text_answers.specs.LinkAnswers.{TraceRangesSay, TraceTableSays, beside_says}
+use Rattle.convoy_task_list.specs.declared.of_certificates.CertificateTask.{CertificateTask}
+use Rattle.convoy_task_list.specs.declared.of_certificates.CertificateTask.TheVariants as certificates
+use Rattle.convoy_task_list.specs.declared.of_kinds.KindsTask.{KindsTask}
+use Rattle.convoy_task_list.specs.declared.of_kinds.KindsTask.TheVariants as kinds
+use Rattle.convoy_task_list.specs.declared.of_plans.PlanTask.{PlanTask}
+use Rattle.convoy_task_list.specs.declared.of_plans.PlanTask.TheVariants as plans
+use Rattle.convoy_task_list.specs.declared.of_scenarios.ScenarioTask.{ScenarioTask}
+use Rattle.convoy_task_list.specs.declared.of_scenarios.ScenarioTask.TheVariants as scenarios
+use Rattle.convoy_task_list.specs.declared.of_traces.TraceTask.{TraceTask}
+use Rattle.convoy_task_list.specs.declared.of_traces.TraceTask.TheVariants as traces
+use Rattle.convoy_task_list.specs.declared.searches.SearchTask.{SearchTask}
+use Rattle.convoy_task_list.specs.declared.searches.SearchTask.TheVariants as searches
+use Rattle.convoy_task_list.specs.declared.task.Task.{Task}
+use Rattle.convoy_task_list.specs.declared.task.Task.TheVariants.{Tell, Scenario as OfScenario, Ceilings, Search, BatchTable, Plan, Certificate as OfCertificate, Kinds, Trace, Ranges}
+use Rattle.convoy_tasks.specs.ScenarioTexts.{ScenarioTextSays}
+
+-- what a scenario answers without a search
+abbrev pub scenario_says : ScenarioTask → Asked → Rule
+scenario_says scenarios.First asked = FirstSays asked
+scenario_says scenarios.Text asked = ScenarioTextSays asked
+scenario_says (scenarios.Ceiling simulations outage unit) asked = CeilingSays outage asked unit
+
+-- what is found in it by searches with these settings
+abbrev pub search_says : SearchTask → Asked → Settings → Rule
+search_says searches.Analyse asked settings = AnalyseSays asked settings
+search_says (searches.Latency with_ceiling) asked settings = latency_says with_ceiling asked settings
+search_says (searches.Survey format with_ceilings) asked settings = SurveySays format with_ceilings asked settings
+search_says (searches.WhatIf format shows_all) asked settings = WhatIfSays format shows_all asked settings
+search_says searches.Report asked settings = ReportSays asked settings
+search_says (searches.Budget format of_all of_ceiling) asked settings = BudgetSays format of_all of_ceiling asked settings
+search_says (searches.Order format wanted with_reasons) asked settings = OrderSays format wanted with_reasons asked settings
+search_says (searches.Listing wanted) asked settings = ListingSays wanted asked settings
+search_says (searches.Sweep format sweep envelope) asked settings = SweepTold format sweep envelope asked settings
+search_says (searches.Curve setting envelope) asked settings = CurveTold setting envelope asked settings
+
+-- what a plan answers for the targets that are wanted
+abbrev pub plan_says : PlanTask → Wanted → Asked → Rule
+plan_says (plans.Table format with_reasons first options) wanted asked = PlanSays format wanted with_reasons first asked options
+plan_says (plans.Scenario first options) wanted asked = PlacingSays wanted first asked options
+plan_says (plans.Proof options) wanted asked = PlanProofSays wanted asked
+plan_says (plans.Ceiling format unit) wanted asked = PlanCeilingSays format wanted asked unit
+plan_says plans.CeilingScenario wanted asked = CeilingPlacingSays wanted asked
+plan_says plans.Check wanted asked = PlanCheckSays wanted asked
+
+-- what a certificate answers, which has to be of the scenario that is wanted, if one is
+abbrev pub certificate_says : CertificateTask → Option Scenario → Option TimeUnit → Option ℕ → Rule
+certificate_says (certificates.Check tells) wanted unit limit = SaysWithin limit NotChecked (check_says wanted tells unit)
+certificate_says (certificates.Explain with_ceiling) wanted unit limit = SaysWithin limit NotChecked (explain_says with_ceiling unit)
+certificate_says certificates.Draw wanted unit limit = SaysWithin limit NotChecked (AskSays (askings.Draw unit))
+
+-- what kinds of messages answer
+abbrev pub kinds_say : KindsTask → Option TimeUnit → Rule
+kinds_say (kinds.Table format) unit = KindTableSays format unit
+kinds_say (kinds.Worst simulations) unit = WorstKindSays unit
+
+-- what a trace answers, of a run of the scenario that is wanted
+abbrev pub trace_task_says : TraceTask → Option Scenario → Rule
+trace_task_says (traces.Fits skew unit) wanted = trace_says wanted skew unit
+trace_task_says (traces.Ranges rules unit) wanted = TraceRangesSay rules unit
+trace_task_says (traces.Table format unit) wanted = TraceTableSays format unit
+trace_task_says (traces.Beside format unit) wanted = beside_says wanted format unit
 
 -- THE RULE OF A TASK: what may be answered for a text. The scenario that is wanted, if one is, is that of which a certificate has to be, or a trace; no other task looks at it.
 abbrev pub task_says : Task → Option Scenario → Rule
-task_says (First asked) wanted = FirstSays asked
 task_says (Tell telling) wanted = TellSays telling
-task_says (Check tells unit limit) wanted = SaysWithin limit NotChecked (check_says wanted tells unit)
-task_says (Explain with_ceiling unit limit) wanted = SaysWithin limit NotChecked (explain_says with_ceiling unit)
-task_says (Draw unit limit) wanted = SaysWithin limit NotChecked (AskSays (askings.Draw unit))
-task_says (Ceiling simulations asked unit) wanted = CeilingSays asked unit
-task_says (Ceilings format group simulations asked unit) wanted = CeilingsSay format asked unit (option_map string_bytes group)
-task_says (Kinds format unit) wanted = KindTableSays format unit
-task_says (WorstKind simulations unit) wanted = WorstKindSays unit
-task_says (Fits skew unit) wanted = trace_says wanted skew unit
-task_says (Analyse asked options) wanted = AnalyseSays asked options
-task_says (Latency with_ceiling asked options) wanted = latency_says with_ceiling asked options
-task_says (Survey format with_ceilings asked options) wanted = SurveySays format with_ceilings asked options
-task_says (WhatIf format shows_all asked options) wanted = WhatIfSays format shows_all asked options
-task_says (Report asked options) wanted = ReportSays asked options
-task_says (Budget format of_all of_ceiling asked options) wanted = BudgetSays format of_all of_ceiling asked options
-task_says (Order format wanting with_reasons asked options) wanted = OrderSays format wanting with_reasons asked options
-task_says (Ranges rules) wanted = RangesSay rules
-task_says (TraceRanges rules unit) wanted = TraceRangesSay rules unit
-task_says (TraceTable format unit) wanted = TraceTableSays format unit
-task_says (Beside format unit) wanted = beside_says wanted format unit
-task_says (Listing wanting asked options) wanted = ListingSays wanting asked options
-task_says (Plan format wanting with_reasons first asked options) wanted = PlanSays format wanting with_reasons first asked options
-task_says (Placing wanting first asked options) wanted = PlacingSays wanting first asked options
-task_says (PlanCertificate wanting asked options) wanted = PlanProofSays wanting asked
-task_says (PlanCeiling format wanting asked unit) wanted = PlanCeilingSays format wanting asked unit
-task_says (CeilingPlacing wanting asked) wanted = CeilingPlacingSays wanting asked
-task_says (CheckPlan wanting asked) wanted = PlanCheckSays wanting asked
-task_says (Sweep format sweep envelope asked options) wanted = SweepTold format sweep envelope asked options
-task_says (Curve setting envelope asked options) wanted = CurveTold setting envelope asked options
+task_says (OfScenario asked what) wanted = scenario_says what asked
+task_says (Ceilings format group simulations outage asked unit) wanted = CeilingsSay format outage asked unit (option_map string_bytes group)
+task_says (Search asked options what) wanted = search_says what asked options
 task_says (BatchTable format asked options tells_status) wanted = BatchTableSays format asked options
+task_says (Plan targets asked what) wanted = plan_says what targets asked
+task_says (OfCertificate unit limit what) wanted = certificate_says what wanted unit limit
+task_says (Kinds unit what) wanted = kinds_say what unit
+task_says (Trace what) wanted = trace_task_says what wanted
+task_says (Ranges rules) wanted = RangesSay rules
+
+-- how long a plan may be, in bytes: as long as a job, or as a certificate where one stands below it
+abbrev pub longest_for_plan : PlanTask → ℕ
+longest_for_plan plans.Check = LONGEST_CERTIFICATE
+longest_for_plan other = LONGEST_JOB
 
 -- HOW LONG ITS TEXT MAY BE, in bytes: as long as a certificate's where it may be one or is a trace, and as long as a job's else
 abbrev pub longest_for : Task → ℕ
-longest_for (First asked) = LONGEST_JOB
 longest_for (Tell telling) = LONGEST_CERTIFICATE
-longest_for (Check tells unit limit) = LONGEST_CERTIFICATE
-longest_for (Explain with_ceiling unit limit) = LONGEST_CERTIFICATE
-longest_for (Draw unit limit) = LONGEST_CERTIFICATE
-longest_for (Ceiling simulations asked unit) = LONGEST_JOB
-longest_for (Ceilings format group simulations asked unit) = LONGEST_JOB
-longest_for (Kinds format unit) = LONGEST_JOB
-longest_for (WorstKind simulations unit) = LONGEST_JOB
-longest_for (Fits skew unit) = LONGEST_CERTIFICATE
-longest_for (Analyse asked options) = LONGEST_JOB
-longest_for (Latency with_ceiling asked options) = LONGEST_JOB
-longest_for (Survey format with_ceilings asked options) = LONGEST_JOB
-longest_for (WhatIf format shows_all asked options) = LONGEST_JOB
-longest_for (Report asked options) = LONGEST_JOB
-longest_for (Budget format of_all of_ceiling asked options) = LONGEST_JOB
-longest_for (Order format wanting with_reasons asked options) = LONGEST_JOB
-longest_for (Ranges rules) = MOST_BYTES
-longest_for (TraceRanges rules unit) = LONGEST_CERTIFICATE
-longest_for (TraceTable format unit) = LONGEST_CERTIFICATE
-longest_for (Beside format unit) = LONGEST_CERTIFICATE
-longest_for (Listing wanting asked options) = LONGEST_JOB
-longest_for (Plan format wanting with_reasons first asked options) = LONGEST_JOB
-longest_for (Placing wanting first asked options) = LONGEST_JOB
-longest_for (PlanCertificate wanting asked options) = LONGEST_JOB
-longest_for (PlanCeiling format wanting asked unit) = LONGEST_JOB
-longest_for (CeilingPlacing wanting asked) = LONGEST_JOB
-longest_for (CheckPlan wanting asked) = LONGEST_CERTIFICATE
-longest_for (Sweep format sweep envelope asked options) = LONGEST_JOB
-longest_for (Curve setting envelope asked options) = LONGEST_JOB
+longest_for (OfScenario asked what) = LONGEST_JOB
+longest_for (Ceilings format group simulations outage asked unit) = LONGEST_JOB
+longest_for (Search asked options what) = LONGEST_JOB
 longest_for (BatchTable format asked options tells_status) = LONGEST_BATCH
+longest_for (Plan targets asked what) = longest_for_plan what
+longest_for (OfCertificate unit limit what) = LONGEST_CERTIFICATE
+longest_for (Kinds unit what) = LONGEST_JOB
+longest_for (Trace what) = LONGEST_CERTIFICATE
+longest_for (Ranges rules) = MOST_BYTES
 
--- the task is done without a search for the greatest latency, and without rows that are made several at a time
-abbrev pub NeedsNoSearch : Task → Type 0
-NeedsNoSearch (Ceilings format group simulations asked unit) = ⊥
-NeedsNoSearch (Analyse asked options) = ⊥
-NeedsNoSearch (Latency with_ceiling asked options) = ⊥
-NeedsNoSearch (Survey format with_ceilings asked options) = ⊥
-NeedsNoSearch (WhatIf format shows_all asked options) = ⊥
-NeedsNoSearch (Report asked options) = ⊥
-NeedsNoSearch (Budget format of_all of_ceiling asked options) = ⊥
-NeedsNoSearch (Order format wanting with_reasons asked options) = ⊥
-NeedsNoSearch (Listing wanting asked options) = ⊥
-NeedsNoSearch (Plan format wanting with_reasons first asked options) = ⊥
-NeedsNoSearch (Placing wanting first asked options) = ⊥
-NeedsNoSearch (PlanCertificate wanting asked options) = ⊥
-NeedsNoSearch (Sweep format sweep envelope asked options) = ⊥
-NeedsNoSearch (Curve setting envelope asked options) = ⊥
-NeedsNoSearch (BatchTable format asked options tells_status) = ⊥
-NeedsNoSearch other = Unit {0}
+-- the task is told at once of a scenario or of a certificate, without a search and without rows that are made several at a time
+abbrev pub IsToldAtOnce : Task → Type 0
+IsToldAtOnce (Tell telling) = Unit {0}
+IsToldAtOnce (OfScenario asked what) = Unit {0}
+IsToldAtOnce (OfCertificate unit limit what) = Unit {0}
+IsToldAtOnce other = ⊥

@@ -5,21 +5,18 @@ ghost use Rattle.convoy_commands.specs.WithCeilings.{explain_says};
 ghost use Rattle.convoy_commands.specs.Withins.{SaysWithin};
 ghost use Rattle.convoy_commands.specs.declared.done.Done.TheVariants.{NotChecked};
 ghost use Rattle.convoy_survey.specs.CeilingTables.{CeilingsSay};
-ghost use Rattle.convoy_tasks.specs.Tasks.{NeedsNoSearch, longest_for, task_says};
+ghost use Rattle.convoy_tasks.specs.Tasks.{IsToldAtOnce, certificate_says, kinds_say, longest_for, longest_for_plan, plan_says, scenario_says, search_says, task_says, trace_task_says};
 
-use super::batch_table::{LONGEST_BATCH, batch_table_answer};
-use super::checking::check_answer;
-use super::fits::answer_fits;
-use super::kinds::{answer_kinds, answer_worst_kind};
-use super::links::{answer_beside, answer_trace_ranges, answer_trace_table};
-use super::task::Task;
-use convoy_best_order::{listing_answer, order_answer};
+use super::scenario_text::answer_scenario;
+use convoy_batches::{LONGEST_BATCH, batch_table_answer};
+use convoy_best_order::{Wanted, listing_answer, order_answer};
 use convoy_best_plan::{PlanWatch, placing_answer, plan_answer};
 use convoy_budget::budget_answer;
 use convoy_commands::{
-    Answer, Asking, Fault, LONGEST_CERTIFICATE, LONGEST_JOB, analyse_answer, ask, ceiling_answer,
-    explain_with_ceiling, first_answer, latency_answer, ranges_answer, tell,
+    Answer, Asking, Fault, LONGEST_CERTIFICATE, LONGEST_JOB, Options, analyse_answer, ask,
+    ceiling_answer, explain_with_ceiling, first_answer, latency_answer, ranges_answer, tell,
 };
+use convoy_outages::Outage;
 use convoy_plan_ceilings::{ceiling_placing_answer, plan_ceiling_answer};
 use convoy_plan_checker::plan_check_answer;
 use convoy_plan_proof::plan_proof_answer;
@@ -29,6 +26,13 @@ use convoy_scenario::{Scenario, TimeUnit};
 use convoy_survey::{ceilings_answer, survey_answer};
 use convoy_sweep::{curve_told, sweep_told};
 use convoy_tables::Format;
+use convoy_task_list::{
+    CertificateTask, KindsTask, PlanTask, ScenarioTask, SearchTask, Task, TraceTask,
+};
+use convoy_text_answers::{
+    answer_beside, answer_fits, answer_kinds, answer_trace_ranges, answer_trace_table,
+    answer_worst_kind, check_answer,
+};
 use convoy_toml::Asked;
 use convoy_what_if::what_if_answer;
 use std::alloc::Global;
@@ -43,7 +47,8 @@ use std::thread::Threads;
 /// The faults are those of a text: `Fault::Scenario` where it is that of no scenario, where none of its groups has the
 /// name that is given, or where a change of it makes none; `Fault::Sweep` where its keys can't be given the values of a
 /// sweep; `Fault::Plan` where it is that of no plan, or of one that has no placement; `Fault::Kinds` where it is that of no
-/// kinds of messages; `Fault::Trace` where it is no trace of the scenario; `Fault::Schedule` and `Fault::Order` for a schedule that is none of it; `Fault::Reading` for a scenario of more than [`LONGEST_JOB`] bytes
+/// kinds of messages; `Fault::Trace` where it is no trace of the scenario; `Fault::Outage` where outages are asked of it whose ticks
+/// are not known or too many; `Fault::Schedule` and `Fault::Order` for a schedule that is none of it; `Fault::Reading` for a scenario of more than [`LONGEST_JOB`] bytes
 /// where a certificate may be longer; `Fault::TooManyJobs`; and `Fault::Memory`.
 pub fn answer<R: Threads + Wait + Sync, W: PlanWatch + Sync>(
     rt: &R,
@@ -58,19 +63,112 @@ pub fn answer<R: Threads + Wait + Sync, W: PlanWatch + Sync>(
         (reply_of result) }
 {
     match task {
-        Task::Analyse { asked, options } => {
-            analyse_answer(rt, alloc, asked, text, options, &watches[0])
-        }
-        Task::Latency {
-            with_ceiling,
+        Task::Search {
             asked,
             options,
-        } => latency_answer(rt, alloc, *with_ceiling, asked, text, options, &watches[0]),
-        Task::Survey {
+            what,
+        } => answer_search(rt, alloc, what, asked, options, text, watches),
+        Task::Plan {
+            wanted,
+            asked,
+            what,
+        } => answer_plan(rt, alloc, what, *wanted, asked, text, watches),
+        Task::BatchTable {
+            format,
+            asked,
+            options,
+            ..
+        } => batch_table_answer(rt, alloc, asked, options, *format, text, watches),
+        Task::Ceilings {
+            format,
+            group,
+            simulations,
+            outage,
+            asked,
+            unit,
+        } => answer_ceilings(
+            rt,
+            alloc,
+            *format,
+            *outage,
+            asked,
+            *unit,
+            group,
+            *simulations,
+            text,
+            watches,
+        ),
+        Task::Kinds { unit, what } => answer_of_kinds(alloc, *what, *unit, text),
+        Task::Trace(what) => answer_trace(alloc, what, wanted, text),
+        Task::Ranges { rules } => ranges_answer(alloc, rules, text),
+        Task::Tell(_) | Task::Scenario { .. } | Task::Certificate { .. } => {
+            answer_at_once(alloc, task, wanted, text)
+        }
+    }
+}
+
+/// The same of what is told of a scenario or of a certificate without a search, and so without threads.
+pub(crate) fn answer_at_once(
+    alloc: Global,
+    task: &Task,
+    wanted: Option<&Scenario>,
+    text: &[u8],
+) -> Result<Answer, Fault>
+    requires { IsToldAtOnce task.now }
+    ensures { SaysUnlessMemory (task_says task.now (option_map (λ s. s.now) wanted.entry)) text.now
+        (reply_of result) }
+{
+    match task {
+        Task::Tell(telling) => tell(alloc, *telling, text),
+        Task::Scenario { asked, what } => answer_of_scenario(alloc, what, asked, text),
+        Task::Certificate { unit, limit, what } => answer_certificate(
+            alloc, *what, wanted, *unit, *limit, text,
+        ),
+        _ => unreachable!(),
+    }
+}
+
+/// What a scenario answers without a search.
+fn answer_of_scenario(
+    alloc: Global,
+    what: &ScenarioTask,
+    asked: &Asked,
+    text: &[u8],
+) -> Result<Answer, Fault>
+    ensures { SaysUnlessMemory (scenario_says what.now asked.now) text.now (reply_of result) }
+{
+    match what {
+        ScenarioTask::First => first_answer(alloc, asked, text),
+        ScenarioTask::Text => answer_scenario(alloc, asked, text),
+        ScenarioTask::Ceiling {
+            simulations,
+            outage,
+            unit,
+        } => ceiling_answer(alloc, *simulations, *outage, asked, *unit, text),
+    }
+}
+
+/// What is found in a scenario by searches.
+fn answer_search<R: Threads + Wait + Sync, W: PlanWatch + Sync>(
+    rt: &R,
+    alloc: Global,
+    what: &SearchTask,
+    asked: &Asked,
+    options: &Options,
+    text: &[u8],
+    watches: &[W],
+) -> Result<Answer, Fault>
+    requires { 0 < length watches.now }
+    ensures { SaysUnlessMemory (search_says what.now asked.now options.now) text.now (reply_of result) }
+{
+    match what {
+        SearchTask::Analyse => analyse_answer(rt, alloc, asked, text, options, &watches[0]),
+        SearchTask::Latency { with_ceiling } => {
+            latency_answer(rt, alloc, *with_ceiling, asked, text, options, &watches[0])
+        }
+        SearchTask::Survey {
             format,
             with_ceilings,
-            asked,
-            options,
         } => survey_answer(
             rt,
             alloc,
@@ -81,23 +179,14 @@ pub fn answer<R: Threads + Wait + Sync, W: PlanWatch + Sync>(
             text,
             watches,
         ),
-        Task::WhatIf {
-            format,
-            shows_all,
-            asked,
-            options,
-        } => what_if_answer(
+        SearchTask::WhatIf { format, shows_all } => what_if_answer(
             rt, alloc, *format, *shows_all, asked, options, text, watches,
         ),
-        Task::Report { asked, options } => {
-            report_answer(rt, alloc, asked, options, text, watches)
-        }
-        Task::Budget {
+        SearchTask::Report => report_answer(rt, alloc, asked, options, text, watches),
+        SearchTask::Budget {
             format,
             of_all,
             of_ceiling,
-            asked,
-            options,
         } => budget_answer(
             rt,
             alloc,
@@ -109,12 +198,10 @@ pub fn answer<R: Threads + Wait + Sync, W: PlanWatch + Sync>(
             text,
             watches,
         ),
-        Task::Order {
+        SearchTask::Order {
             format,
             wanted,
             with_reasons,
-            asked,
-            options,
         } => order_answer(
             rt,
             alloc,
@@ -126,23 +213,46 @@ pub fn answer<R: Threads + Wait + Sync, W: PlanWatch + Sync>(
             text,
             watches,
         ),
-        Task::Listing {
-            wanted,
-            asked,
-            options,
-        } => listing_answer(rt, alloc, *wanted, asked, options, text, watches),
-        Task::Plan {
+        SearchTask::Listing { wanted } => {
+            listing_answer(rt, alloc, *wanted, asked, options, text, watches)
+        }
+        SearchTask::Sweep {
             format,
-            wanted,
+            sweep,
+            envelope,
+        } => sweep_told(
+            rt, alloc, *format, sweep, *envelope, asked, options, text, watches,
+        ),
+        SearchTask::Curve { setting, envelope } => {
+            curve_told(rt, alloc, setting, *envelope, asked, options, text, watches)
+        }
+    }
+}
+
+/// What a plan answers.
+fn answer_plan<R: Threads + Wait + Sync, W: PlanWatch + Sync>(
+    rt: &R,
+    alloc: Global,
+    what: &PlanTask,
+    wanted: Wanted,
+    asked: &Asked,
+    text: &[u8],
+    watches: &[W],
+) -> Result<Answer, Fault>
+    requires { 0 < length watches.now }
+    ensures { SaysUnlessMemory (plan_says what.now wanted asked.now) text.now (reply_of result) }
+{
+    match what {
+        PlanTask::Table {
+            format,
             with_reasons,
             first,
-            asked,
             options,
         } => plan_answer(
             rt,
             alloc,
             *format,
-            *wanted,
+            wanted,
             *with_reasons,
             *first,
             asked,
@@ -150,139 +260,72 @@ pub fn answer<R: Threads + Wait + Sync, W: PlanWatch + Sync>(
             text,
             watches,
         ),
-        Task::Placing {
-            wanted,
-            first,
-            asked,
-            options,
-        } => placing_answer(rt, alloc, *wanted, *first, asked, options, text, watches),
-        Task::PlanCertificate {
-            wanted,
-            asked,
-            options,
-        } => plan_proof_answer(rt, alloc, *wanted, asked, options, text, watches),
-        Task::Sweep {
-            format,
-            sweep,
-            envelope,
-            asked,
-            options,
-        } => sweep_told(
-            rt, alloc, *format, sweep, *envelope, asked, options, text, watches,
-        ),
-        Task::Curve {
-            setting,
-            envelope,
-            asked,
-            options,
-        } => curve_told(rt, alloc, setting, *envelope, asked, options, text, watches),
-        Task::BatchTable {
-            format,
-            asked,
-            options,
-            ..
-        } => batch_table_answer(rt, alloc, asked, options, *format, text, watches),
-        Task::Ceilings {
-            format,
-            group,
-            simulations,
-            asked,
-            unit,
-        } => answer_ceilings(
-            rt,
-            alloc,
-            *format,
-            asked,
-            *unit,
-            group,
-            *simulations,
-            text,
-            watches,
-        ),
-        Task::First { .. }
-        | Task::Tell(_)
-        | Task::Check { .. }
-        | Task::Explain { .. }
-        | Task::Draw { .. }
-        | Task::Ranges { .. }
-        | Task::TraceRanges { .. }
-        | Task::TraceTable { .. }
-        | Task::Beside { .. }
-        | Task::Kinds { .. }
-        | Task::WorstKind { .. }
-        | Task::Fits { .. }
-        | Task::PlanCeiling { .. }
-        | Task::CeilingPlacing { .. }
-        | Task::CheckPlan { .. }
-        | Task::Ceiling { .. } => answer_at_once(alloc, task, wanted, text),
+        PlanTask::Scenario { first, options } => {
+            placing_answer(rt, alloc, wanted, *first, asked, options, text, watches)
+        }
+        PlanTask::Proof { options } => {
+            plan_proof_answer(rt, alloc, wanted, asked, options, text, watches)
+        }
+        PlanTask::Ceiling { format, unit } => {
+            plan_ceiling_answer(alloc, *format, wanted, asked, *unit, text)
+        }
+        PlanTask::CeilingScenario => ceiling_placing_answer(alloc, wanted, asked, text),
+        PlanTask::Check => plan_check_answer(alloc, wanted, asked, text),
     }
 }
 
-/// The same of a task that needs no search and makes no rows, and so no threads.
-pub(crate) fn answer_at_once(
+/// What a certificate answers.
+fn answer_certificate(
     alloc: Global,
-    task: &Task,
+    what: CertificateTask,
+    wanted: Option<&Scenario>,
+    unit: Option<TimeUnit>,
+    limit: Option<u64>,
+    text: &[u8],
+) -> Result<Answer, Fault>
+    ensures { SaysUnlessMemory
+        (certificate_says what (option_map (λ s. s.now) wanted.entry) unit limit) text.now
+        (reply_of result) }
+{
+    match what {
+        CertificateTask::Check { tells } => check_answer(alloc, wanted, tells, unit, limit, text),
+        CertificateTask::Explain { with_ceiling } => {
+            answer_explain(alloc, with_ceiling, unit, limit, text)
+        }
+        CertificateTask::Draw => ask(alloc, Asking::Draw(unit), limit, text),
+    }
+}
+
+/// What kinds of messages answer.
+fn answer_of_kinds(
+    alloc: Global,
+    what: KindsTask,
+    unit: Option<TimeUnit>,
+    text: &[u8],
+) -> Result<Answer, Fault>
+    ensures { SaysUnlessMemory (kinds_say what unit) text.now (reply_of result) }
+{
+    match what {
+        KindsTask::Table { format } => answer_kinds(alloc, format, unit, text),
+        KindsTask::Worst { simulations } => answer_worst_kind(alloc, simulations, unit, text),
+    }
+}
+
+/// What a trace answers.
+fn answer_trace(
+    alloc: Global,
+    what: &TraceTask,
     wanted: Option<&Scenario>,
     text: &[u8],
 ) -> Result<Answer, Fault>
-    requires { NeedsNoSearch task.now }
-    ensures { SaysUnlessMemory (task_says task.now (option_map (λ s. s.now) wanted.entry)) text.now
+    ensures { SaysUnlessMemory (trace_task_says what.now (option_map (λ s. s.now) wanted.entry)) text.now
         (reply_of result) }
 {
-    match task {
-        Task::First { asked } => first_answer(alloc, asked, text),
-        Task::Tell(telling) => tell(alloc, *telling, text),
-        Task::Check { tells, unit, limit } => {
-            check_answer(alloc, wanted, *tells, *unit, *limit, text)
-        }
-        Task::Explain {
-            with_ceiling,
-            unit,
-            limit,
-        } => answer_explain(alloc, *with_ceiling, *unit, *limit, text),
-        Task::Draw { unit, limit } => ask(alloc, Asking::Draw(*unit), *limit, text),
-        Task::Ranges { rules } => ranges_answer(alloc, rules, text),
-        Task::Ceiling {
-            simulations,
-            asked,
-            unit,
-        } => ceiling_answer(alloc, *simulations, asked, *unit, text),
-        Task::PlanCeiling {
-            format,
-            wanted,
-            asked,
-            unit,
-        } => plan_ceiling_answer(alloc, *format, *wanted, asked, *unit, text),
-        Task::CheckPlan { wanted, asked } => plan_check_answer(alloc, *wanted, asked, text),
-        Task::CeilingPlacing { wanted, asked } => ceiling_placing_answer(
-            alloc, *wanted, asked, text,
-        ),
-        Task::Kinds { format, unit } => answer_kinds(alloc, *format, *unit, text),
-        Task::WorstKind { simulations, unit } => answer_worst_kind(
-            alloc,
-            *simulations,
-            *unit,
-            text,
-        ),
-        Task::Fits { skew, unit } => answer_fits(alloc, wanted, *skew, *unit, text),
-        Task::TraceRanges { rules, unit } => answer_trace_ranges(alloc, rules, *unit, text),
-        Task::TraceTable { format, unit } => answer_trace_table(alloc, *format, *unit, text),
-        Task::Beside { format, unit } => answer_beside(alloc, wanted, *format, *unit, text),
-        Task::Ceilings { .. }
-        | Task::Analyse { .. }
-        | Task::Latency { .. }
-        | Task::Survey { .. }
-        | Task::WhatIf { .. }
-        | Task::Report { .. }
-        | Task::Budget { .. }
-        | Task::Order { .. }
-        | Task::Listing { .. }
-        | Task::Plan { .. }
-        | Task::Placing { .. }
-        | Task::PlanCertificate { .. }
-        | Task::Sweep { .. }
-        | Task::Curve { .. }
-        | Task::BatchTable { .. } => unreachable!(),
+    match what {
+        TraceTask::Fits { skew, unit } => answer_fits(alloc, wanted, *skew, *unit, text),
+        TraceTask::Ranges { rules, unit } => answer_trace_ranges(alloc, rules, *unit, text),
+        TraceTask::Table { format, unit } => answer_trace_table(alloc, *format, *unit, text),
+        TraceTask::Beside { format, unit } => answer_beside(alloc, wanted, *format, *unit, text),
     }
 }
 
@@ -309,6 +352,7 @@ fn answer_ceilings<R: Threads + Sync, W: Sync>(
     rt: &R,
     alloc: Global,
     format: Format,
+    outage: Option<Outage>,
     asked: &Asked,
     unit: Option<TimeUnit>,
     group: &Option<String>,
@@ -317,7 +361,7 @@ fn answer_ceilings<R: Threads + Sync, W: Sync>(
     watches: &[W],
 ) -> Result<Answer, Fault>
     requires { 0 < length watches.now }
-    ensures { SaysUnlessMemory (CeilingsSay format asked.now unit (option_map string_bytes group.now)) text.now
+    ensures { SaysUnlessMemory (CeilingsSay format outage asked.now unit (option_map string_bytes group.now)) text.now
         (reply_of result) }
 {
     match group {
@@ -327,6 +371,7 @@ fn answer_ceilings<R: Threads + Sync, W: Sync>(
                 rt,
                 alloc,
                 format,
+                outage,
                 asked,
                 unit,
                 name,
@@ -339,6 +384,7 @@ fn answer_ceilings<R: Threads + Sync, W: Sync>(
             rt,
             alloc,
             format,
+            outage,
             asked,
             unit,
             None,
@@ -354,36 +400,21 @@ pub fn longest_of(task: &Task) -> usize
     ensures { result ≡ longest_for task.now }
 {
     match task {
-        Task::Tell(_)
-        | Task::Check { .. }
-        | Task::CheckPlan { .. }
-        | Task::Explain { .. }
-        | Task::Draw { .. }
-        | Task::TraceRanges { .. }
-        | Task::TraceTable { .. }
-        | Task::Beside { .. }
-        | Task::Fits { .. } => LONGEST_CERTIFICATE,
+        Task::Tell(_) | Task::Certificate { .. } | Task::Trace(_) => LONGEST_CERTIFICATE,
+        Task::Plan { what, .. } => longest_of_plan(what),
         Task::BatchTable { .. } => LONGEST_BATCH,
         Task::Ranges { .. } => MOST_BYTES,
-        Task::First { .. }
-        | Task::Ceiling { .. }
-        | Task::Ceilings { .. }
-        | Task::Kinds { .. }
-        | Task::WorstKind { .. }
-        | Task::Analyse { .. }
-        | Task::Latency { .. }
-        | Task::Survey { .. }
-        | Task::WhatIf { .. }
-        | Task::Report { .. }
-        | Task::Budget { .. }
-        | Task::Order { .. }
-        | Task::Listing { .. }
-        | Task::Plan { .. }
-        | Task::Placing { .. }
-        | Task::PlanCertificate { .. }
-        | Task::PlanCeiling { .. }
-        | Task::CeilingPlacing { .. }
-        | Task::Sweep { .. }
-        | Task::Curve { .. } => LONGEST_JOB,
+        Task::Scenario { .. } | Task::Ceilings { .. } | Task::Search { .. } | Task::Kinds { .. } =>
+            LONGEST_JOB,
+    }
+}
+
+/// How many bytes a plan has at most, and a plan with a certificate below it.
+fn longest_of_plan(what: &PlanTask) -> usize
+    ensures { result ≡ longest_for_plan what.now }
+{
+    match what {
+        PlanTask::Check => LONGEST_CERTIFICATE,
+        _ => LONGEST_JOB,
     }
 }

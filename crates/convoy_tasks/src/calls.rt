@@ -11,9 +11,9 @@ ghost use Rattle.convoy_commands.specs.Tells.{SimulateSays, TimelineSays};
 ghost use Rattle.convoy_commands.specs.Withins.{SaysWithin};
 
 use super::running::{run_at_once, run_task};
-use super::task::Task;
 use convoy_commands::{Done, Fault, NoGate, Options, Telling};
 use convoy_streams::{Sink, Source};
+use convoy_task_list::{CertificateTask, ScenarioTask, SearchTask, Task};
 use convoy_toml::Asked;
 use std::alloc::Global;
 use std::sync::Wait;
@@ -37,8 +37,9 @@ pub fn run_first<S: Source, K: Sink>(
 ) -> Result<Done, Fault>
     ensures { IsRun LONGEST_JOB (FirstSays as_written) most_reads S.reads K.writes source.old source.new sink.old sink.new result }
 {
-    let task = Task::First {
+    let task = Task::Scenario {
         asked: Asked::as_written(),
+        what: ScenarioTask::First,
     };
     Ok(run_at_once(alloc, &task, source, sink, most_reads)?.done)
 }
@@ -105,10 +106,10 @@ pub fn run_check<S: Source, K: Sink>(
     ensures { IsRun LONGEST_CERTIFICATE (SaysWithin limit NotChecked CheckSays) most_reads
         S.reads K.writes source.old source.new sink.old sink.new result }
 {
-    let task = Task::Check {
-        tells: false,
+    let task = Task::Certificate {
         unit: None,
         limit,
+        what: CertificateTask::Check { tells: false },
     };
     Ok(run_at_once(alloc, &task, source, sink, most_reads)?.done)
 }
@@ -139,9 +140,10 @@ pub fn run_analyse<R: Threads + Wait + Sync, S: Source, K: Sink>(
     ensures { IsRun LONGEST_JOB (AnalyseSays as_written options.now) options.now.most_reads
         S.reads K.writes source.old source.new sink.old sink.new result }
 {
-    let task = Task::Analyse {
+    let task = Task::Search {
         asked: Asked::as_written(),
         options: *options,
+        what: SearchTask::Analyse,
     };
     let most_reads = options.most_reads();
     Ok(run_task(rt, alloc, &task, None, source, sink, most_reads, &[NoGate])?.done)
@@ -171,10 +173,12 @@ pub fn run_latency<R: Threads + Wait + Sync, S: Source, K: Sink>(
     ensures { IsRun LONGEST_JOB (LatencySays as_written options.now) options.now.most_reads
         S.reads K.writes source.old source.new sink.old sink.new result }
 {
-    let task = Task::Latency {
-        with_ceiling: false,
+    let task = Task::Search {
         asked: Asked::as_written(),
         options: *options,
+        what: SearchTask::Latency {
+            with_ceiling: false,
+        },
     };
     let most_reads = options.most_reads();
     Ok(run_task(rt, alloc, &task, None, source, sink, most_reads, &[NoGate])?.done)

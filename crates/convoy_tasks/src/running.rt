@@ -2,16 +2,16 @@ ghost use Rattle.std.specs.Option.{option_map};
 ghost use Rattle.convoy_streams.specs.Devices.{HasRun};
 ghost use Rattle.convoy_commands.specs.Replies.{reply_of};
 ghost use Rattle.convoy_tasks.specs.Runs.{IsRun, WritesReply, done_of};
-ghost use Rattle.convoy_tasks.specs.Tasks.{NeedsNoSearch, longest_for, task_says};
+ghost use Rattle.convoy_tasks.specs.Tasks.{IsToldAtOnce, longest_for, task_says};
 ghost use Rattle.std.specs.Prelude.{◌<◌, None, length};
 
 use super::answering::{answer, answer_at_once, longest_of};
 use super::ended::Ended;
-use super::task::Task;
 use convoy_best_plan::PlanWatch;
 use convoy_commands::{Answer, Fault};
 use convoy_scenario::Scenario;
 use convoy_streams::{DeviceFailed, Sink, Source, read_to_end, write_all};
+use convoy_task_list::Task;
 use std::alloc::Global;
 use std::sync::Wait;
 use std::thread::Threads;
@@ -41,7 +41,7 @@ pub fn run_task<R: Threads + Wait + Sync, S: Source, K: Sink, W: PlanWatch + Syn
     write_answer(sink, answer(rt, alloc, task, wanted, &text, watches))
 }
 
-/// The same of a task that needs no search and makes no rows, and so no threads; no scenario is wanted.
+/// The same of a task that is told at once, without threads; no scenario is wanted.
 pub(crate) fn run_at_once<S: Source, K: Sink>(
     alloc: Global,
     task: &Task,
@@ -49,7 +49,7 @@ pub(crate) fn run_at_once<S: Source, K: Sink>(
     sink: &mut K,
     most_reads: u64,
 ) -> Result<Ended, Fault>
-    requires { NeedsNoSearch task.now }
+    requires { IsToldAtOnce task.now }
     ensures { IsRun (longest_for task.now) (task_says task.now None) most_reads
         S.reads K.writes source.old source.new sink.old sink.new (done_of result) }
 {

@@ -1,6 +1,6 @@
 ghost use Rattle.convoy_scenario.specs.Memory.{IsUnlessMemory};
 ghost use Rattle.convoy_toml.specs.Reading.{scenario_of_text};
-ghost use Rattle.convoy_tasks.specs.Abouts.{IsScenarioRead};
+ghost use Rattle.convoy_tasks.specs.WantedReads.{IsScenarioRead};
 
 use convoy_commands::{Fault, LONGEST_JOB};
 use convoy_scenario::{Scenario, ScenarioFault};

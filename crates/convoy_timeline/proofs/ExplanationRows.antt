@@ -1,5 +1,5 @@
 -- Worked rows, computed from the definitions alone.
-use Rattle.std.proofs.Common.{◌≡◌, [], ◌∷◌, ◌++◌, replicate, slice_set, None, Some, refl, codes}
+use Rattle.std.proofs.Common.{◌≡◌, [], ◌∷◌, ◌++◌, replicate, slice_set, None, Some, refl, codes, false}
 use Rattle.std.specs.Fmt.{digits}
 use Rattle.convoy_scenario.specs.declared.sender.Sender.TheVariants.{Client, Group}
 use Rattle.convoy_draft.specs.declared.duration.TimeUnit.TheVariants.{Microseconds}
@@ -143,7 +143,7 @@ base_packets = refl
 
 -- the message with a link from b to a of one tick, under a schedule
 linked : Scenario
-linked = record late { links = record { sender = Group 1; to = 0; least = 1; most = 1 } ∷ [] }
+linked = record late { links = record { sender = Group 1; to = 0; least = 1; most = 1; stamps = false } ∷ [] }
 
 linked_packets : scheduled_packets_text linked (in_fixed_order (3 ∷ 2 ∷ 1 ∷ 1 ∷ [])) ≡
     codes "packet 0: t from client to a, 1 to 3 ticks, takes 3" ++ 10 ∷ (

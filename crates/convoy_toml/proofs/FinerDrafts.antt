@@ -1,102 +1,30 @@
 -- What is written in durations, in ticks so many times as fine: all numbers are so many times as great.
-use Rattle.std.proofs.Common.{◌≡◌, ℕ, ◌+◌, ◌-◌, ◌*◌, ◌/◌, ◌%◌, ◌==◌, ◌&&◌, ◌<◌, ◌≤◌, ℤ, pos, negsuc, int_le, leb, nat_le, Bool, true, false, cond, if◌then◌else◌, List, [], ◌∷◌, ◌++◌, map, flat_map, filter, Option, Some, None, is_some, option_map, ok_or, Result, Ok, Err, refl, sym, ap, ◌∙◌, arith, inl, inr}
-use Rattle.std.proofs.Math.Nat.{mul-le-mul_left}
+use Rattle.std.proofs.Common.{◌≡◌, ℕ, ◌+◌, ◌*◌, ◌&&◌, ◌≤◌, ℤ, pos, int_le, nat_le, Bool, true, false, if◌then◌else◌, List, [], ◌∷◌, ◌++◌, map, flat_map, filter, Option, Some, None, is_some, option_map, Result, Ok, refl, sym, ap, subst, ◌∙◌, arith, inl, inr}
 use Rattle.std.specs.List.{list_all, list_any, sum_by}
-use Rattle.std.proofs.lemmas.Bool.{and_parts, cases_Bool, cases_lt, eqb-true, false≢true}
-use Rattle.std.proofs.lemmas.Bool.Decides.{nat_tests}
+use Rattle.std.proofs.lemmas.Bool.{and_parts, cases_Bool, false≢true}
 use Rattle.std.proofs.lemmas.List.{map-append}
 use Rattle.std.proofs.lemmas.List.Folds.{list_all-append}
 use Rattle.std.proofs.lemmas.List.Sums.{sum_by-cons}
-use Rattle.std.proofs.lemmas.Nat.{div-add-mod', div-mul-add, mod-mul-add}
 use Rattle.convoy_lines.specs.Results.{◌>>=◌}
 use Rattle.convoy_draft.specs.declared.fault.Key.{Key}
-use Rattle.convoy_draft.specs.declared.fault.Key.TheVariants.{Delay, Least, Most, At, Until}
+use Rattle.convoy_draft.specs.declared.fault.Key.TheVariants.{Delay, Least, Most, At, Until, Agree}
 use Rattle.convoy_draft.specs.declared.fault.ScenarioFault.{ScenarioFault}
 use Rattle.convoy_draft.specs.declared.fault.ScenarioFault.TheVariants.{NotWhole}
-use Rattle.convoy_draft.specs.Checks.{leads_elsewhere}
+use Rattle.convoy_draft.specs.declared.time.Time.TheVariants.{Real}
+use Rattle.convoy_draft.specs.Checks.{judge, leads_elsewhere}
 use Rattle.convoy_draft.specs.Draft.{Draft, DraftLink, DraftMessage}
 use Rattle.convoy_toml.specs.declared.links.TheConstants.{MOST_WRITTEN_LINKS}
 use Rattle.convoy_toml.specs.declared.written.WrittenTime.{WrittenTime}
 use Rattle.convoy_toml.specs.declared.written.WrittenTime.TheVariants.{Count, Lasting}
+use Rattle.convoy_toml.specs.Agreements.{Agreement, agreed, agreement_checks, filled, filled_by, least_of_rest, with_agreements}
 use Rattle.convoy_toml.specs.Links.{Bundle, apart, count_of, link_in, links_between, links_from, links_of_bundle, links_of_bundles, ways_of}
-use Rattle.convoy_toml.specs.Shape.{WrittenLink, WrittenMessage, WrittenScenario}
-use Rattle.convoy_toml.specs.Times.{bundle_of, bundles_of, delay_or_greatest, draft_message_of, draft_messages_of, greatest_most, if_written, is_lasting, last_tick, need_least, ticks_in, times_of, times_of_links, times_of_message, whole, whole_if_written}
-use Rattle.convoy_toml.specs.Ways.{with_least}
-
--- ---- numbers of ticks
-
--- so many times the number
-abbrev pub finer_ticks : ℕ → ℤ → ℤ
-finer_ticks times (pos n) = pos (times * n)
-finer_ticks times (negsuc n) = negsuc (times * (n + 1) - 1)
-
-order_kept : (times a b : ℕ) → 1 ≤ times → leb (times * a) (times * b) ≡ leb a b
-order_kept times a b some =
-    elim (cases_lt b a) [
-      | inl less ↦
-          let more = mul-le-mul_left times less in
-          let above : times * b < times * a = omega (arith, more) in
-          grind (arith, nat_tests)
-      | inr least ↦
-          let more = mul-le-mul_left times least in
-          grind (arith, nat_tests)
-    ]
-
--- their order is the same
-pub finer_order : (times : ℕ) (a b : ℤ) → 1 ≤ times → int_le (finer_ticks times a) (finer_ticks times b) ≡ int_le a b
-finer_order times (pos a) (pos b) some = order_kept times a b some
-finer_order times (pos a) (negsuc b) some = refl
-finer_order times (negsuc a) (pos b) some = refl
-finer_order times (negsuc a) (negsuc b) some =
-    let kept = order_kept times (b + 1) (a + 1) some in
-    let low = mul-le-mul_left times (one_more a) in
-    let high = mul-le-mul_left times (one_more b) in
-    less_one (times * (b + 1)) (times * (a + 1)) b a (omega (arith, high)) (omega (arith, low)) kept
-  where
-    one_more : (n : ℕ) → 1 ≤ n + 1
-    one_more n = omega arith
-
-    less_one : (m n b a : ℕ) → 1 ≤ m → 1 ≤ n → leb m n ≡ leb (b + 1) (a + 1) → leb (m - 1) (n - 1) ≡ leb b a
-    less_one m n b a p q e = grind (arith, nat_tests)
-
-when_some : (b : Bool) (x z : ℤ) → cond b (Some x) None ≡ Some z → (b ≡ true) × (x ≡ z)
-when_some true x z e = (refl, cc)
-when_some false x z e = absurd cc
-
--- a duration that is a whole number of ticks is so many times as many finer ones
-in_finer : (times tick length : ℕ) (ticks : ℤ) → 1 ≤ tick → ticks_in (times * tick) length ≡ Some ticks → ticks_in tick length ≡ Some (finer_ticks times ticks)
-in_finer times tick length ticks some e =
-    let count = length / (times * tick) in
-    let (divides, is) = when_some (length % (times * tick) == 0) (pos count) ticks e in
-    let none : length % (times * tick) ≡ 0 = eqb-true (length % (times * tick)) 0 divides in
-    let split : count * (times * tick) + length % (times * tick) ≡ length = div-add-mod' length (times * tick) in
-    let whole_again : length ≡ (times * count) * tick + 0 = omega (arith, split, none) in
-    let over : length / tick ≡ times * count = ap (λ n. n / tick) whole_again ∙ div-mul-add (times * count) tick 0 some in
-    let left : length % tick ≡ 0 = ap (λ n. n % tick) whole_again ∙ mod-mul-add (times * count) tick 0 some in
-    let told : ticks_in tick length ≡ Some (pos (times * count)) = rw (left, over) refl in
-    told ∙ ap (λ z. Some (finer_ticks times z)) is
+use Rattle.convoy_toml.specs.Shape.{WrittenAgreement, WrittenLink, WrittenMessage, WrittenScenario}
+use Rattle.convoy_toml.specs.Times.{agreement_of, agreements_of, bundle_of, bundles_of, delay_or_greatest, draft_message_of, draft_messages_of, greatest_most, if_written, is_lasting, last_tick, need_least, ticks_in, times_of, times_of_agreements, times_of_links, times_of_message, whole, whole_if_written}
+use Rattle.convoy_toml.specs.Ways.{has_ranges, with_least}
+use Rattle.convoy_toml.proofs.FinerAgreements.{finer_agreement, finer_draft, with_finer}
+pub use Rattle.convoy_toml.proofs.FinerTicks.{after_ok, finer_bundle, finer_link, finer_message, finer_order, finer_ticks, from_ok, in_finer, same_ok}
 
 -- ---- times, messages and tables of links
-
-pub after_ok : {A B : Type 0} (r : Result A ScenarioFault) (f : A → Result B ScenarioFault) (y : B) → (r >>= f) ≡ Ok y → (x : A) × (r ≡ Ok x) × (f x ≡ Ok y)
-after_ok (Ok x) f y e = (x, refl, e)
-after_ok (Err fault) f y e = absurd cc
-
-pub same_ok : {A : Type 0} (x y : A) → ◌≡◌ {A = Result A ScenarioFault} (Ok x) (Ok y) → x ≡ y
-same_ok x y e = cc
-
-from_ok : (o : Option ℤ) (fault : ScenarioFault) (z : ℤ) → ok_or o fault ≡ Ok z → o ≡ Some z
-from_ok (Some x) fault z e = ap Some (same_ok x z e)
-from_ok None fault z e = absurd cc
-
-abbrev pub finer_message : ℕ → DraftMessage → DraftMessage
-finer_message times message = record message { at = finer_ticks times message.at; until = finer_ticks times message.until }
-
-abbrev pub finer_bundle : ℕ → Bundle → Bundle
-finer_bundle times bundle = record bundle { least = finer_ticks times bundle.least; most = finer_ticks times bundle.most }
-
-abbrev pub finer_link : ℕ → DraftLink → DraftLink
-finer_link times link = record link { least = finer_ticks times link.least; most = finer_ticks times link.most }
 
 module _ (times tick : ℕ) (some : 1 ≤ tick) where
   abbrev coarse : Option ℕ
@@ -138,7 +66,7 @@ module _ (times tick : ℕ) (some : 1 ≤ tick) where
 
   bundle_finer : (link : WrittenLink) (made : Bundle) → is_lasting link.least ≡ true → is_lasting link.most ≡ true → bundle_of coarse link ≡ Ok made → bundle_of fine link ≡ Ok (finer_bundle times made)
   bundle_finer link made low high e =
-      let ranged : ℤ → ℤ → Bundle = λ least most. record { ends = link.ends; least = least; most = most } in
+      let ranged : ℤ → ℤ → Bundle = λ least most. record { ends = link.ends; least = least; most = most; stamps = link.stamps } in
       let least = after_ok (whole coarse Least link.least) (λ n. whole coarse Most link.most >>= λ most. Ok (ranged n most)) made e in
       let most = after_ok (whole coarse Most link.most) (λ n. Ok (ranged least.0 n)) made least.2 in
       rw (whole_finer Least link.least least.0 low least.1, whole_finer Most link.most most.0 high most.1) (ap (λ b. Ok (finer_bundle times b)) (same_ok (ranged least.0 most.0) made most.2))
@@ -151,6 +79,23 @@ module _ (times tick : ℕ) (some : 1 ≤ tick) where
       let here = after_ok (bundle_of coarse link) (λ b. bundles_of coarse links >>= λ bs. Ok (b ∷ bs)) made e in
       let others = after_ok (bundles_of coarse links) (λ bs. Ok (here.0 ∷ bs)) made here.2 in
       rw (bundle_finer link here.0 low.0 high.0 here.1, bundles_finer links others.0 high.1 others.1) (ap (λ bs. Ok (map (finer_bundle times) bs)) (same_ok (here.0 ∷ others.0) made others.2))
+
+  agreement_finer : (agreement : WrittenAgreement) (made : Agreement) → is_lasting agreement.least ≡ true → is_lasting agreement.most ≡ true → agreement_of coarse agreement ≡ Ok made → agreement_of fine agreement ≡ Ok (finer_agreement times made)
+  agreement_finer agreement made low high e =
+      let ranged : ℤ → ℤ → Agreement = λ least most. record { groups = agreement.groups; least = least; most = most; twice = agreement.twice } in
+      let least = after_ok (whole coarse Agree agreement.least) (λ n. whole coarse Agree agreement.most >>= λ most. Ok (ranged n most)) made e in
+      let most = after_ok (whole coarse Agree agreement.most) (λ n. Ok (ranged least.0 n)) made least.2 in
+      rw (whole_finer Agree agreement.least least.0 low least.1, whole_finer Agree agreement.most most.0 high most.1) (ap (λ a. Ok (finer_agreement times a)) (same_ok (ranged least.0 most.0) made most.2))
+
+  agreements_finer : (agreements : List WrittenAgreement) (made : List Agreement) → list_all is_lasting (times_of_agreements agreements) ≡ true → agreements_of coarse agreements ≡ Ok made
+      → agreements_of fine agreements ≡ Ok (map (finer_agreement times) made)
+  agreements_finer [] made lasting e = ap (λ every. Ok (map (finer_agreement times) every)) (same_ok [] made e)
+  agreements_finer (agreement ∷ agreements) made lasting e =
+      let low = and_parts (is_lasting agreement.least) (is_lasting agreement.most && list_all is_lasting (times_of_agreements agreements)) lasting in
+      let high = and_parts (is_lasting agreement.most) (list_all is_lasting (times_of_agreements agreements)) low.1 in
+      let here = after_ok (agreement_of coarse agreement) (λ a. agreements_of coarse agreements >>= λ every. Ok (a ∷ every)) made e in
+      let others = after_ok (agreements_of coarse agreements) (λ every. Ok (here.0 ∷ every)) made here.2 in
+      rw (agreement_finer agreement here.0 low.0 high.0 here.1, agreements_finer agreements others.0 high.1 others.1) (ap (λ every. Ok (map (finer_agreement times) every)) (same_ok (here.0 ∷ others.0) made others.2))
 
 -- ---- links
 
@@ -232,7 +177,7 @@ module _ (times : ℕ) where
 
 -- ---- drafts
 
--- a scenario in ticks, before the links that a least delay of what goes by none adds
+-- a scenario in ticks, before the links that a least delay of what goes by none and agreements add
 abbrev pub plain_draft : WrittenScenario → Option ℕ → ℤ → List DraftLink → List DraftMessage → Draft
 plain_draft written tick delay links messages = record {
   time = written.time;
@@ -245,13 +190,13 @@ plain_draft written tick delay links messages = record {
   target_group = written.target_group;
 }
 
--- a draft without the links that a least delay of what goes by none adds, and that least delay
+-- a draft without the links that a least delay of what goes by none adds, and that least delay; where replicas agree there is none, as what they add stands among the links
 pub record Made (written : WrittenScenario) (tick : Option ℕ) (draft : Draft) : Type 0 where
   pub least : Option ℤ
   pub delay : ℤ
   pub links : List DraftLink
   pub messages : List DraftMessage
-  pub told : is_some least ≡ is_some written.least
+  pub ranged : has_ranges (is_some written.least) draft ≡ true → has_ranges (is_some least) draft ≡ true
   pub within : need_least written.time delay least ≡ Ok tt
   pub is : draft ≡ with_least least (plain_draft written tick delay links messages)
 
@@ -262,12 +207,15 @@ pub record AreMade (written : WrittenScenario) (times tick : ℕ) (draft finer :
   pub finer_is : finer ≡ with_least (option_map (finer_ticks times) made.least) (plain_draft written (Some tick) (finer_ticks times made.delay) (map (finer_link times) made.links) (map (finer_message times) made.messages))
 
 -- what is left to do after each step
-abbrev of_links : WrittenScenario → Option ℕ → Option ℤ → Option ℤ → List DraftMessage → List Bundle → List DraftLink → Result Draft ScenarioFault
-of_links written tick delay least messages bundles links =
-    need_least written.time (delay_or_greatest delay bundles) least >>= λ within. Ok (with_least least (plain_draft written tick (delay_or_greatest delay bundles) links messages))
+abbrev of_links : WrittenScenario → Option ℕ → Option ℤ → Option ℤ → List DraftMessage → List Bundle → List Agreement → List DraftLink → Result Draft ScenarioFault
+of_links written tick delay least messages bundles agreements links =
+    need_least written.time (delay_or_greatest delay bundles) least >>= λ within. with_agreements least agreements (plain_draft written tick (delay_or_greatest delay bundles) links messages)
+
+abbrev of_agreements : WrittenScenario → Option ℕ → Option ℤ → Option ℤ → List DraftMessage → List Bundle → List Agreement → Result Draft ScenarioFault
+of_agreements written tick delay least messages bundles agreements = links_of_bundles bundles >>= of_links written tick delay least messages bundles agreements
 
 abbrev of_bundles : WrittenScenario → Option ℕ → Option ℤ → Option ℤ → List DraftMessage → List Bundle → Result Draft ScenarioFault
-of_bundles written tick delay least messages bundles = links_of_bundles bundles >>= of_links written tick delay least messages bundles
+of_bundles written tick delay least messages bundles = agreements_of tick written.agreements >>= of_agreements written tick delay least messages bundles
 
 abbrev of_messages : WrittenScenario → Option ℕ → Option ℤ → Option ℤ → List DraftMessage → Result Draft ScenarioFault
 of_messages written tick delay least messages = bundles_of tick written.links >>= of_bundles written tick delay least messages
@@ -290,38 +238,53 @@ least_told tick key (Some time) z e =
     let given = after_ok (whole tick key time) (λ n. Ok (Some n)) z e in
     ap is_some (sym (same_ok (Some given.0) z given.2))
 
--- the draft of what is written, and that of the same in ticks so many times as fine
-pub drafts_finer : (written : WrittenScenario) (times tick : ℕ) (draft finer : Draft) → 1 ≤ times → 1 ≤ tick → list_all is_lasting (times_of written) ≡ true → of_tick written (Some (times * tick)) ≡ Ok draft → of_tick written (Some tick) ≡ Ok finer
+-- in real time, the draft of what is written, and that of the same in ticks so many times as fine
+pub drafts_finer : (written : WrittenScenario) (times tick : ℕ) (draft finer : Draft) → written.time ≡ Real → 1 ≤ times → 1 ≤ tick → list_all is_lasting (times_of written) ≡ true → of_tick written (Some (times * tick)) ≡ Ok draft → of_tick written (Some tick) ≡ Ok finer
     → AreMade written times tick draft finer
-drafts_finer written times tick draft finer some lasts lasting e f =
+drafts_finer written times tick draft finer real some lasts lasting e f =
+    let agreement_times = times_of_agreements written.agreements in
     let delay_time = if_written written.delay in
     let least_time = if_written written.least in
     let message_times = flat_map times_of_message written.messages in
-    let all = all_lasting (delay_time ++ least_time ++ message_times) (times_of_links written.links) lasting in
-    let three = all_lasting (delay_time ++ least_time) message_times all.0 in
-    let two = all_lasting delay_time least_time three.0 in
+    let all = all_lasting (agreement_times ++ delay_time ++ least_time ++ message_times) (times_of_links written.links) lasting in
+    let four = all_lasting (agreement_times ++ delay_time ++ least_time) message_times all.0 in
+    let three = all_lasting (agreement_times ++ delay_time) least_time four.0 in
+    let two = all_lasting agreement_times delay_time three.0 in
     let coarse : Option ℕ = Some (times * tick) in
     let delay = after_ok (whole_if_written coarse Delay written.delay) (of_delay written coarse) draft e in
     let least = after_ok (whole_if_written coarse Least written.least) (of_least written coarse delay.0) draft delay.2 in
     let messages = after_ok (draft_messages_of coarse written.messages) (of_messages written coarse delay.0 least.0) draft least.2 in
     let bundles = after_ok (bundles_of coarse written.links) (of_bundles written coarse delay.0 least.0 messages.0) draft messages.2 in
-    let links = after_ok (links_of_bundles bundles.0) (of_links written coarse delay.0 least.0 messages.0 bundles.0) draft bundles.2 in
+    let agreements = after_ok (agreements_of coarse written.agreements) (of_agreements written coarse delay.0 least.0 messages.0 bundles.0) draft bundles.2 in
+    let links = after_ok (links_of_bundles bundles.0) (of_links written coarse delay.0 least.0 messages.0 bundles.0 agreements.0) draft agreements.2 in
     let d = delay_or_greatest delay.0 bundles.0 in
-    let within = after_ok (need_least written.time d least.0) (λ u. Ok (with_least least.0 (plain_draft written coarse d links.0 messages.0))) draft links.2 in
+    let plain : Draft = plain_draft written coarse d links.0 messages.0 in
+    let within = after_ok (need_least written.time d least.0) (λ u. with_agreements least.0 agreements.0 plain) draft links.2 in
     let more = option_map (finer_ticks times) least.0 in
-    let fine_delay = written_finer times tick lasts Delay written.delay delay.0 two.0 delay.1 in
-    let fine_least = written_finer times tick lasts Least written.least least.0 two.1 least.1 in
-    let fine_messages = messages_finer times tick lasts written.messages messages.0 three.1 messages.1 in
+    let fine_agreed = map (finer_agreement times) agreements.0 in
+    let fine_delay = written_finer times tick lasts Delay written.delay delay.0 two.1 delay.1 in
+    let fine_least = written_finer times tick lasts Least written.least least.0 three.1 least.1 in
+    let fine_messages = messages_finer times tick lasts written.messages messages.0 four.1 messages.1 in
     let fine_bundles = bundles_finer times tick lasts written.links bundles.0 all.1 bundles.1 in
+    let fine_agreements = agreements_finer times tick lasts written.agreements agreements.0 two.0 agreements.1 in
     let fine_links = links_finer times bundles.0 links.0 links.1 in
     let fine_d = delay_finer times some delay.0 bundles.0 in
-    let made : Draft = plain_draft written (Some tick) (finer_ticks times d) (map (finer_link times) links.0) (map (finer_message times) messages.0) in
-    let as_fine : (need_least written.time (finer_ticks times d) more >>= λ u. Ok (with_least more made)) ≡ Ok finer = rw (fine_delay, fine_least, fine_messages, fine_bundles, fine_links, fine_d) at f in
-    let fine_within = after_ok (need_least written.time (finer_ticks times d) more) (λ u. Ok (with_least more made)) finer as_fine in
+    let fine_plain : Draft = finer_draft times (Some tick) plain in
+    let as_fine : (need_least written.time (finer_ticks times d) more >>= λ u. with_agreements more fine_agreed fine_plain) ≡ Ok finer = rw (fine_delay, fine_least, fine_messages, fine_bundles, fine_agreements, fine_links, fine_d) at f in
+    let fine_within = after_ok (need_least written.time (finer_ticks times d) more) (λ u. with_agreements more fine_agreed fine_plain) finer as_fine in
+    let are = with_finer times (Some tick) least.0 agreements.0 plain draft finer some real within.2 fine_within.2 in
     record {
-      made = record { least = least.0; delay = d; links = links.0; messages = messages.0; told = least_told coarse Least written.least least.0 least.1; within = within.1; is = sym (same_ok (with_least least.0 (plain_draft written coarse d links.0 messages.0)) draft within.2) };
-      finer_within = fine_within.1;
-      finer_is = sym (same_ok (with_least more made) finer fine_within.2);
+      made = record {
+        least = are.rest;
+        delay = are.delay;
+        links = are.links;
+        messages = messages.0;
+        ranged = λ h. are.ranged (subst (λ (b : Bool). has_ranges b draft ≡ true) (sym (least_told coarse Least written.least least.0 least.1)) h);
+        within = are.within within.1;
+        is = are.is;
+      };
+      finer_within = are.finer_within fine_within.1;
+      finer_is = are.finer_is;
     }
 
 -- links that are added change neither how time goes nor the length of a tick
@@ -333,6 +296,22 @@ least_ticks (Some least) draft =
       | inr more ↦ rw more (refl, refl)
     ]
 
+filled_ticks : (least : Option ℤ) (draft : Draft) → ((filled_by least draft).time ≡ draft.time) × ((filled_by least draft).tick ≡ draft.tick)
+filled_ticks None draft = (refl, refl)
+filled_ticks (Some least) draft = (refl, refl)
+
+agreed_ticks : (least : Option ℤ) (agreements : List Agreement) (plain draft : Draft) → with_agreements least agreements plain ≡ Ok draft → (draft.time ≡ plain.time) × (draft.tick ≡ plain.tick)
+agreed_ticks least [] plain draft e =
+    let is = same_ok (with_least least plain) draft e in
+    let kept = least_ticks least plain in
+    (ap (λ (d : Draft). d.time) (sym is) ∙ kept.0, ap (λ (d : Draft). d.tick) (sym is) ∙ kept.1)
+agreed_ticks least (agreement ∷ others) plain draft e =
+    let more : Draft = filled least plain in
+    let checked = after_ok (judge (agreement_checks (agreement ∷ others) more)) (λ u. Ok (agreed (agreement ∷ others) more)) draft e in
+    let is = same_ok (agreed (agreement ∷ others) more) draft checked.2 in
+    let kept = filled_ticks (least_of_rest plain.time least) plain in
+    (ap (λ (d : Draft). d.time) (sym is) ∙ kept.0, ap (λ (d : Draft). d.tick) (sym is) ∙ kept.1)
+
 -- time goes as it is written, in ticks of that length
 pub tick_kept : (written : WrittenScenario) (tick : Option ℕ) (draft : Draft) → of_tick written tick ≡ Ok draft → (draft.time ≡ written.time) × (draft.tick ≡ tick)
 tick_kept written tick draft e =
@@ -340,9 +319,8 @@ tick_kept written tick draft e =
     let least = after_ok (whole_if_written tick Least written.least) (of_least written tick delay.0) draft delay.2 in
     let messages = after_ok (draft_messages_of tick written.messages) (of_messages written tick delay.0 least.0) draft least.2 in
     let bundles = after_ok (bundles_of tick written.links) (of_bundles written tick delay.0 least.0 messages.0) draft messages.2 in
-    let links = after_ok (links_of_bundles bundles.0) (of_links written tick delay.0 least.0 messages.0 bundles.0) draft bundles.2 in
+    let agreements = after_ok (agreements_of tick written.agreements) (of_agreements written tick delay.0 least.0 messages.0 bundles.0) draft bundles.2 in
+    let links = after_ok (links_of_bundles bundles.0) (of_links written tick delay.0 least.0 messages.0 bundles.0 agreements.0) draft agreements.2 in
     let plain = plain_draft written tick (delay_or_greatest delay.0 bundles.0) links.0 messages.0 in
-    let within = after_ok (need_least written.time (delay_or_greatest delay.0 bundles.0) least.0) (λ u. Ok (with_least least.0 plain)) draft links.2 in
-    let is : with_least least.0 plain ≡ draft = same_ok (with_least least.0 plain) draft within.2 in
-    let kept = least_ticks least.0 plain in
-    (ap (λ (d : Draft). d.time) (sym is) ∙ kept.0, ap (λ (d : Draft). d.tick) (sym is) ∙ kept.1)
+    let within = after_ok (need_least written.time (delay_or_greatest delay.0 bundles.0) least.0) (λ u. with_agreements least.0 agreements.0 plain) draft links.2 in
+    agreed_ticks least.0 agreements.0 plain draft within.2

@@ -16,11 +16,11 @@ c = codes "c"
 
 -- links of 1 to 2 ticks from these to those, and perhaps back
 abbrev bundle : Option (List (List ℕ)) → List (List ℕ) → Bool → Bundle
-bundle senders to both = record { ends = record { senders = senders; to = to; both = both }; least = pos 1; most = pos 2 }
+bundle senders to both = record { ends = record { senders = senders; to = to; both = both }; least = pos 1; most = pos 2; stamps = false }
 
 -- the one link from the one to the other
 abbrev link : Option (List ℕ) → List ℕ → DraftLink
-link sender to = record { sender = sender; to = to; least = pos 1; most = pos 2 }
+link sender to = record { sender = sender; to = to; least = pos 1; most = pos 2; stamps = false }
 
 one_way : links_of_bundle (bundle (Some (a ∷ [])) (b ∷ []) false) ≡ link (Some a) b ∷ []
 one_way = refl

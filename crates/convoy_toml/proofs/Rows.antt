@@ -146,8 +146,23 @@ both_before_unknown : linked (string (codes "a")) (member (codes "both") (boolea
 unfolding link_of_table
 both_before_unknown = refl
 
+stamps_no_flag : linked (string (codes "a")) (member (codes "stamps") (integer (pos 1)) odd) ≡ Err (Shape key.Stamps)
+unfolding link_of_table
+stamps_no_flag = refl
+
+stamps_of_itself : linked (string (codes "a")) (member (codes "from") (string (codes "a")) (member (codes "stamps") (boolean true) no_members))
+    ≡ Ok (record (lone (codes "a" ∷ []) 0) { links = record { sender = Group 0; to = 0; least = 1; most = 2; stamps = true } ∷ [] })
+unfolding link_of_table
+stamps_of_itself = refl
+
+-- a link to another place is for no stamps of its sender to itself
+stamps_from_clients : linked (string (codes "a")) (member (codes "stamps") (boolean true) no_members)
+    ≡ Ok (record (lone (codes "a" ∷ []) 0) { links = record { sender = Client; to = 0; least = 1; most = 2; stamps = false } ∷ [] })
+unfolding link_of_table
+stamps_from_clients = refl
+
 link_to_itself_alone : linked (array (item (string (codes "a")) no_items)) (member (codes "from") (string (codes "a")) (member (codes "both") (boolean false) no_members))
-    ≡ Ok (record (lone (codes "a" ∷ []) 0) { links = record { sender = Group 0; to = 0; least = 1; most = 2 } ∷ [] })
+    ≡ Ok (record (lone (codes "a" ∷ []) 0) { links = record { sender = Group 0; to = 0; least = 1; most = 2; stamps = false } ∷ [] })
 unfolding link_of_table
 link_to_itself_alone = refl
 
@@ -222,7 +237,7 @@ links_read members = scenario_of_table members >>= λ scenario. Ok scenario.link
 
 -- from clients to the first group, with this range
 abbrev from_clients : ℕ → ℕ → Link
-from_clients least most = record { sender = Client; to = 0; least = least; most = most }
+from_clients least most = record { sender = Client; to = 0; least = least; most = most; stamps = false }
 
 least_of_all : links_read (least_of (integer (pos 2)) (timed (string (codes "real")))) ≡ Ok (from_clients 2 3 ∷ [])
 least_of_all = refl

@@ -1,9 +1,9 @@
 -- Worked rows: which shares values tell, and which a table of links writes.
-use Rattle.std.proofs.Common.{◌≡◌, refl, true, false, [], ◌∷◌, Option, Some, None, ℕ, List, pos, negsuc, Ok, Err, codes}
+use Rattle.std.proofs.Common.{◌≡◌, refl, true, false, [], ◌∷◌, Some, None, pos, negsuc, Err, codes}
 use Rattle.toml.specs.Data.{Data, Members, integer, string, boolean, no_members, member}
 use Rattle.convoy_draft.specs.declared.fault.Key.TheVariants.{Link}
 use Rattle.convoy_draft.specs.declared.fault.ScenarioFault.TheVariants.{Shape}
-use Rattle.convoy_toml.specs.Outside.{LinkShare, share_in}
+use Rattle.convoy_toml.specs.Outside.{share_in}
 use Rattle.convoy_toml.specs.Shape.{share_of_table}
 use Rattle.convoy_toml.specs.Shares.{as_share, share_of_text}
 

@@ -1,5 +1,5 @@
 -- The links that a table writes: one from each place that sends to each group that they lead to, and perhaps the ways back.
-use Rattle.std.specs.Prelude.{ℕ, ◌*◌, nat_le, if◌then◌else◌, ℤ, List, [], ◌++◌, map, flat_map, filter, length, sum_by, Option, Some, None, option_map, unwrap_or, Result, Ok, Err}
+use Rattle.std.specs.Prelude.{ℕ, ◌*◌, nat_le, if◌then◌else◌, Bool, ℤ, List, [], ◌++◌, map, flat_map, filter, length, sum_by, Option, Some, None, option_map, unwrap_or, Result, Ok, Err}
 use Rattle.std.specs.List.{list_any}
 use Rattle.convoy_draft.specs.declared.fault.Limit.TheVariants.{Link}
 use Rattle.convoy_draft.specs.declared.fault.ScenarioFault.{ScenarioFault}
@@ -9,15 +9,16 @@ use Rattle.convoy_draft.specs.Draft.{DraftLink}
 use Rattle.convoy_toml.specs.declared.links.TheConstants.{MOST_WRITTEN_LINKS}
 use Rattle.convoy_toml.specs.Shape.{LinkEnds}
 
--- the links of a table, with their range in ticks: where they lead, and the least and the greatest delay
+-- the links of a table, with their range in ticks: where they lead, the least and the greatest delay, and whether a group's own stamps go by those from a group to itself, too
 pub record Bundle : Type 0 where
   pub ends : LinkEnds
   pub least : ℤ
   pub most : ℤ
+  pub stamps : Bool
 
 -- a link with the range of the bundle
 abbrev pub link_in : Bundle → Option (List ℕ) → List ℕ → DraftLink
-link_in bundle sender to = record { sender = sender; to = to; least = bundle.least; most = bundle.most }
+link_in bundle sender to = record { sender = sender; to = to; least = bundle.least; most = bundle.most; stamps = bundle.stamps }
 
 -- links from one place to each of the groups
 abbrev pub links_from : Bundle → Option (List ℕ) → List (List ℕ) → List DraftLink

@@ -4,14 +4,14 @@ use Rattle.std.specs.BTreeMap.{BTreeMap}
 use Rattle.std.specs.declared.alloc.Global.{Global}
 use Rattle.toml.specs.View.{table_view}
 use Rattle.toml.specs.declared.value.Value.{Value}
-use Rattle.std.specs.Prelude.{Vec, String, map, ℕ, nat_le, Bool, true, false, not, ◌&&◌, ◌||◌, if◌then◌else◌, ℤ, List, [], ◌∷◌, length, slice_index_or, find, Option, Some, None, is_some, is_none, option_map, option_and_then, ok_or, unwrap_or, Result, Ok, Err}
+use Rattle.std.specs.Prelude.{Vec, String, map, ℕ, nat_le, Bool, true, false, not, ◌&&◌, ◌||◌, if◌then◌else◌, ℤ, List, [], ◌∷◌, length, slice_index_or, find, codes, Option, Some, None, is_some, is_none, option_map, option_and_then, ok_or, unwrap_or, Result, Ok, Err}
 use Rattle.std.specs.List.{list_any, slice_get}
 use Rattle.std.specs.Option.{option_or}
 use Rattle.std.specs.Str.{bytes_eq}
 use Rattle.toml.specs.Data.{Data, Items, no_items, item, Members, no_members, member, get_member, as_str, as_integer, as_bool, as_array, as_table}
 use Rattle.convoy_lines.specs.Results.{◌>>=◌}
 use Rattle.convoy_draft.specs.declared.fault.Key.{Key}
-use Rattle.convoy_draft.specs.declared.fault.Key.TheVariants.{Time, Tick, Delay, Groups, Multicast, Name, From, To, At, Until, Within, Target, Message, Group, Link, Least, Most, Both, Schedule, Order, Unknown}
+use Rattle.convoy_draft.specs.declared.fault.Key.TheVariants.{Time, Tick, Delay, Groups, Multicast, Name, From, To, At, Until, Within, Target, Message, Group, Link, Least, Most, Both, Stamps, Agree, Steps, Schedule, Order, Unknown}
 use Rattle.convoy_draft.specs.declared.fault.ScenarioFault.{ScenarioFault}
 use Rattle.convoy_draft.specs.declared.fault.ScenarioFault.TheVariants.{Shape}
 use Rattle.convoy_draft.specs.declared.time.Time.{Time as AnyTime}
@@ -40,11 +40,19 @@ pub record LinkEnds : Type 0 where
   pub to : List (List ℕ)
   pub both : Bool
 
--- a table of links as it is written: where they lead, and the least and the greatest delay
+-- a table of links as it is written: where they lead, the least and the greatest delay, and whether a group's own stamps go by those from a group to itself, too
 pub record WrittenLink : Type 0 where
   pub ends : LinkEnds
   pub least : WrittenTime
   pub most : WrittenTime
+  pub stamps : Bool
+
+-- what the replicas of groups need to agree as it is written: the groups, the least and the greatest time from an entry given to the leader until it is applied there, and whether they agree twice: once more before a message is committed
+pub record WrittenAgreement : Type 0 where
+  pub groups : List (List ℕ)
+  pub least : WrittenTime
+  pub most : WrittenTime
+  pub twice : Bool
 
 -- a target as it is written: the message of which the latency is asked, and the group
 pub record WrittenTarget : Type 0 where
@@ -59,6 +67,7 @@ pub record WrittenScenario : Type 0 where
   pub least : Option WrittenTime
   pub groups : List (List ℕ)
   pub links : List WrittenLink
+  pub agreements : List WrittenAgreement
   pub messages : List WrittenMessage
   pub target_message : List ℕ
   pub target_group : List ℕ
@@ -189,9 +198,13 @@ share_of_table table = if_there (get_member outside_word table) where
   if_there None = Ok None
   if_there (Some d) = ok_or (option_map Some (as_share d)) (Shape Link)
 
+-- whether a group's own stamps go by the links of a table from a group to itself, too; they do not where the key is absent
+abbrev pub stamps_of_table : Members → Result Bool ScenarioFault
+stamps_of_table table = wish Stamps as_bool table >>= λ stamps. Ok (unwrap_or stamps false)
+
 -- the word is a key of a table of links
 abbrev pub is_link_word : List ℕ → Bool
-is_link_word word = list_any (λ key. bytes_eq (key_word key) word) (From ∷ To ∷ Both ∷ Least ∷ Most ∷ []) || bytes_eq outside_word word
+is_link_word word = list_any (λ key. bytes_eq (key_word key) word) (From ∷ To ∷ Both ∷ Least ∷ Most ∷ Stamps ∷ []) || bytes_eq outside_word word
 
 -- each key of the table is one of these
 abbrev pub has_link_words : Members → Bool
@@ -208,9 +221,10 @@ link_of_table time table = do
   ends ← ends_of_table table
   least ← need Least (as_when time) table
   most ← need Most (as_when time) table
+  stamps ← stamps_of_table table
   _ ← share_of_table table
   _ ← need_link_words table
-  Ok (record { ends = ends; least = least; most = most })
+  Ok (record { ends = ends; least = least; most = most; stamps = stamps })
 
 -- the tables of links, unless one is at fault
 abbrev pub links_of : AnyTime → List Members → Result (List WrittenLink) ScenarioFault
@@ -223,6 +237,53 @@ links_of time (table ∷ tables) = do
 -- the tables of links of a scenario's table; none where the key is absent
 abbrev pub links_of_table : AnyTime → Members → Result (List WrittenLink) ScenarioFault
 links_of_table time table = wish_all Link as_table table >>= λ tables. links_of time (unwrap_or tables [])
+
+-- the least and the greatest time, which are all that an array has
+abbrev pub range_in : AnyTime → Items → Option (WrittenTime × WrittenTime)
+range_in time no_items = None
+range_in time (item least no_items) = None
+range_in time (item least (item most no_items)) = option_and_then (λ l. option_map (λ m. (l, m)) (as_when time most)) (as_when time least)
+range_in time (item least (item most (item other others))) = None
+
+-- the least and the greatest time that an array of just two tells
+abbrev pub as_range : AnyTime → Data → Option (WrittenTime × WrittenTime)
+as_range time value = option_and_then (range_in time) (as_array value)
+
+-- whether replicas agree twice, by the word for it
+abbrev pub twice_named : List ℕ → Option Bool
+twice_named word =
+    if bytes_eq word (codes "log") then Some false
+    else if bytes_eq word (codes "twice") then Some true
+    else None
+
+-- whether they agree twice, where a value names it
+abbrev pub as_steps : Data → Option Bool
+as_steps value = option_and_then twice_named (as_str value)
+
+-- whether the replicas of a table's groups agree twice; they do not where the key is absent
+abbrev pub steps_of_table : Members → Result Bool ScenarioFault
+steps_of_table table = wish Steps as_steps table >>= λ twice. Ok (unwrap_or twice false)
+
+-- what the replicas of groups need to agree as it is written
+unfoldable pub agreement_of_table : AnyTime → Members → Result WrittenAgreement ScenarioFault
+agreement_of_table time table = do
+  groups ← need Name as_names table
+  range ← need Agree (as_range time) table
+  twice ← steps_of_table table
+  _ ← need_only (Name ∷ Agree ∷ Steps ∷ []) table
+  Ok (record { groups = groups; least = range.0; most = range.1; twice = twice })
+
+-- the tables of groups, unless one is at fault
+abbrev pub agreements_in : AnyTime → List Members → Result (List WrittenAgreement) ScenarioFault
+agreements_in time [] = Ok []
+agreements_in time (table ∷ tables) = do
+  agreement ← agreement_of_table time table
+  agreements ← agreements_in time tables
+  Ok (agreement ∷ agreements)
+
+-- the tables of groups of a scenario's table; none where the key is absent
+abbrev pub agreements_of_table : AnyTime → Members → Result (List WrittenAgreement) ScenarioFault
+agreements_of_table time table = wish_all Group as_table table >>= λ tables. agreements_in time (unwrap_or tables [])
 
 -- the target that is written in a scenario's table
 abbrev pub written_target : Members → Result WrittenTarget ScenarioFault
@@ -251,7 +312,7 @@ target_of_table Optional table groups messages =
     if is_some (get_member (key_word Target) table) then written_target table else Ok (first_target groups messages)
 target_of_table (Named message group) table groups messages = Ok (record { message = message; group = group })
 
--- the scenario as it is written, whatever else stands in the table
+-- the scenario as it is written, but for what the replicas of groups need to agree, whatever else stands in the table
 abbrev pub scenario_of_table : TargetKey → Members → Result WrittenScenario ScenarioFault
 scenario_of_table key table = do
   time ← time_of_table table
@@ -263,9 +324,9 @@ scenario_of_table key table = do
   messages ← messages_of time tables
   target ← target_of_table key table groups messages
   links ← links_of_table time table
-  Ok (record { time = time; tick = tick; delay = delay; least = least; groups = groups; links = links; messages = messages; target_message = target.message; target_group = target.group })
+  Ok (record { time = time; tick = tick; delay = delay; least = least; groups = groups; links = links; agreements = []; messages = messages; target_message = target.message; target_group = target.group })
 
--- what a table writes beside messages and a target, whatever else stands there: how time goes, the length of a tick, D, the least delay of what goes by no link, the groups, and the links
+-- what a table writes beside messages and a target, whatever else stands there: how time goes, the length of a tick, D, the least delay of what goes by no link, the groups, the links, and what the replicas of groups need to agree
 abbrev pub setting_of_table : Members → Result WrittenScenario ScenarioFault
 setting_of_table table = do
   time ← time_of_table table
@@ -274,7 +335,8 @@ setting_of_table table = do
   least ← wish Least (as_least time) table
   groups ← need_all Groups as_str table
   links ← links_of_table time table
-  Ok (record { time = time; tick = tick; delay = delay; least = least; groups = groups; links = links; messages = []; target_message = []; target_group = [] })
+  agreements ← agreements_of_table time table
+  Ok (record { time = time; tick = tick; delay = delay; least = least; groups = groups; links = links; agreements = agreements; messages = []; target_message = []; target_group = [] })
 
 -- what is written in a scenario's table: the scenario, and the delays of a schedule and the ranks of its moments where they are given
 pub record Written : Type 0 where
@@ -286,10 +348,11 @@ pub record Written : Type 0 where
 abbrev pub written_of_table : TargetKey → Members → Result Written ScenarioFault
 written_of_table key table = do
   scenario ← scenario_of_table key table
+  agreements ← agreements_of_table scenario.time table
   schedule ← wish_all Schedule as_integer table
   order ← wish_all Order as_integer table
-  _ ← need_only (Time ∷ Tick ∷ Delay ∷ Least ∷ Groups ∷ Multicast ∷ Target ∷ Link ∷ Schedule ∷ Order ∷ []) table
-  Ok (record { scenario = scenario; schedule = schedule; order = order })
+  _ ← need_only (Time ∷ Tick ∷ Delay ∷ Least ∷ Groups ∷ Multicast ∷ Target ∷ Link ∷ Group ∷ Schedule ∷ Order ∷ []) table
+  Ok (record { scenario = record scenario { agreements = agreements }; schedule = schedule; order = order })
 
 -- the unit in which a value tells a duration
 abbrev pub unit_in : Data → Option TimeUnit

@@ -3,7 +3,7 @@ use Rattle.std.specs.Prelude.{ℕ, suc, zero, ◌+◌, ℤ, pos, int_le, ◌%◌
 use Rattle.std.specs.List.{list_all}
 use Rattle.convoy_lines.specs.Results.{◌>>=◌}
 use Rattle.convoy_draft.specs.declared.fault.Key.{Key}
-use Rattle.convoy_draft.specs.declared.fault.Key.TheVariants.{Tick, Delay, At, Until, Least, Most}
+use Rattle.convoy_draft.specs.declared.fault.Key.TheVariants.{Tick, Delay, At, Until, Least, Most, Agree}
 use Rattle.convoy_draft.specs.declared.fault.ScenarioFault.{ScenarioFault}
 use Rattle.convoy_draft.specs.declared.fault.ScenarioFault.TheVariants.{Shape, NotWhole, OverLimit}
 use Rattle.convoy_draft.specs.declared.fault.Limit.TheVariants as limits
@@ -14,8 +14,8 @@ use Rattle.convoy_draft.specs.Limits.{greatest_delay}
 use Rattle.convoy_toml.specs.declared.written.WrittenTime.{WrittenTime}
 use Rattle.convoy_toml.specs.declared.written.WrittenTime.TheVariants.{Count, Lasting}
 use Rattle.convoy_toml.specs.Links.{Bundle, links_of_bundles}
-use Rattle.convoy_toml.specs.Shape.{WrittenScenario, WrittenLink, WrittenMessage}
-use Rattle.convoy_toml.specs.Ways.{with_least}
+use Rattle.convoy_toml.specs.Shape.{WrittenAgreement, WrittenScenario, WrittenLink, WrittenMessage}
+use Rattle.convoy_toml.specs.Agreements.{Agreement, with_agreements}
 
 -- the time is a number of ticks
 abbrev pub is_count : WrittenTime → Bool
@@ -46,10 +46,15 @@ abbrev pub times_of_links : List WrittenLink → List WrittenTime
 times_of_links [] = []
 times_of_links (link ∷ links) = link.least ∷ link.most ∷ times_of_links links
 
+-- the least and the greatest time of each agreement
+abbrev pub times_of_agreements : List WrittenAgreement → List WrittenTime
+times_of_agreements [] = []
+times_of_agreements (agreement ∷ agreements) = agreement.least ∷ agreement.most ∷ times_of_agreements agreements
+
 -- all times of a scenario
 abbrev pub times_of : WrittenScenario → List WrittenTime
 times_of scenario =
-    if_written scenario.delay ++ if_written scenario.least ++ flat_map times_of_message scenario.messages ++ times_of_links scenario.links
+    times_of_agreements scenario.agreements ++ if_written scenario.delay ++ if_written scenario.least ++ flat_map times_of_message scenario.messages ++ times_of_links scenario.links
 
 -- the greatest common divisor, in at most so many steps of Euclid's rule
 unfoldable pub divisor_within : ℕ → ℕ → ℕ → ℕ
@@ -122,7 +127,7 @@ abbrev pub bundle_of : Option ℕ → WrittenLink → Result Bundle ScenarioFaul
 bundle_of tick link = do
   least ← whole tick Least link.least
   most ← whole tick Most link.most
-  Ok (record { ends = link.ends; least = least; most = most })
+  Ok (record { ends = link.ends; least = least; most = most; stamps = link.stamps })
 
 -- the links of all tables in ticks
 abbrev pub bundles_of : Option ℕ → List WrittenLink → Result (List Bundle) ScenarioFault
@@ -130,6 +135,21 @@ bundles_of tick [] = Ok []
 bundles_of tick (link ∷ links) = do
   first ← bundle_of tick link
   others ← bundles_of tick links
+  Ok (first ∷ others)
+
+-- what the replicas of groups need to agree, in ticks
+abbrev pub agreement_of : Option ℕ → WrittenAgreement → Result Agreement ScenarioFault
+agreement_of tick agreement = do
+  least ← whole tick Agree agreement.least
+  most ← whole tick Agree agreement.most
+  Ok (record { groups = agreement.groups; least = least; most = most; twice = agreement.twice })
+
+-- what the replicas of all groups need to agree, in ticks
+abbrev pub agreements_of : Option ℕ → List WrittenAgreement → Result (List Agreement) ScenarioFault
+agreements_of tick [] = Ok []
+agreements_of tick (agreement ∷ agreements) = do
+  first ← agreement_of tick agreement
+  others ← agreements_of tick agreements
   Ok (first ∷ others)
 
 -- the greatest delay of all tables of links, and of one more
@@ -149,7 +169,7 @@ is_least time delay (Some least) = not (is_within 1 (greatest_delay time) delay)
 abbrev pub need_least : AnyTime → ℤ → Option ℤ → Result (Unit {0}) ScenarioFault
 need_least time delay least = if is_least time delay least then Ok tt else Err (OverLimit limits.Least)
 
--- the scenario in ticks, with each link that its tables write, and where a least delay of what goes by none is written, a link with it for each way of that; or the first time that is no whole number of ticks; or too many links; or a least delay beyond its limits
+-- the scenario in ticks, with each link that its tables write, and where a least delay of what goes by none is written, a link with it for each way of that, and with what the replicas of groups need to agree; or the first time that is no whole number of ticks; or too many links; or a least delay, or where replicas agree another range, beyond its limits
 abbrev pub draft_of_written : WrittenScenario → Result Draft ScenarioFault
 draft_of_written scenario = do
   tick ← tick_of scenario
@@ -157,6 +177,7 @@ draft_of_written scenario = do
   least ← whole_if_written tick Least scenario.least
   messages ← draft_messages_of tick scenario.messages
   bundles ← bundles_of tick scenario.links
+  agreements ← agreements_of tick scenario.agreements
   links ← links_of_bundles bundles
   _ ← need_least scenario.time (delay_or_greatest written bundles) least
-  Ok (with_least least (record { time = scenario.time; tick = tick; delay = delay_or_greatest written bundles; groups = scenario.groups; links = links; messages = messages; target_message = scenario.target_message; target_group = scenario.target_group }))
+  with_agreements least agreements (record { time = scenario.time; tick = tick; delay = delay_or_greatest written bundles; groups = scenario.groups; links = links; messages = messages; target_message = scenario.target_message; target_group = scenario.target_group })

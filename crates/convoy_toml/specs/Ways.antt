@@ -47,7 +47,7 @@ ways_without_link draft = filter (lacks_link draft.messages draft.links) (ways_b
 
 -- a link along that way with the range from that least delay to D
 abbrev pub link_along : ℤ → ℤ → Way → DraftLink
-link_along least delay way = record { sender = way.sender; to = way.to; least = least; most = delay }
+link_along least delay way = record { sender = way.sender; to = way.to; least = least; most = delay; stamps = false }
 
 -- the draft, with a link for each way on which something goes without one, where their least delay is written and is not the 1 that it is without a link
 abbrev pub with_least : Option ℤ → Draft → Draft

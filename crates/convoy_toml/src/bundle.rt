@@ -13,12 +13,14 @@ pub struct Bundle {
     pub least: i64,
     /// The greatest delay, in ticks.
     pub most: i64,
+    /// Whether a group's own stamps go by those from a group to itself, too.
+    pub stamps: bool,
 }
 
 impl Model for Bundle {
     ghost Value = { Bundle };
 
-    ghost view = { λ b. record { ends = b.ends; least = b.least; most = b.most } };
+    ghost view = { λ b. record { ends = b.ends; least = b.least; most = b.most; stamps = b.stamps } };
 }
 
 impl Bundle {

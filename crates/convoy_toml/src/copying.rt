@@ -1,8 +1,8 @@
-//! Names, and where links lead, in memory of their own. Each call fails where memory runs out, and else never.
+//! Names, where links lead, and what replicas need to agree, in memory of their own. Each call fails where memory runs out, and else never.
 
 ghost use Rattle.std.specs.Prelude.{◌≡◌, option_map, IfOk};
 
-use super::written::LinkEnds;
+use super::written::{LinkEnds, WrittenAgreement};
 use convoy_scenario::Name;
 use std::alloc::{AllocError, Global};
 
@@ -47,4 +47,32 @@ fn copy_senders(alloc: Global, senders: &Option<Vec<Name>>) -> Result<Option<Vec
         Some(names) => Ok(Some(copy_names(alloc, names)?)),
         None => Ok(None),
     }
+}
+
+/// The same agreements.
+pub fn copy_agreements(
+    alloc: Global,
+    agreements: &[WrittenAgreement],
+) -> Result<Vec<WrittenAgreement>, AllocError>
+    ensures { IfOk result (λ copies. copies.items ≡ agreements.now) }
+{
+    let mut copies = Vec::new(alloc);
+    for agreement in agreements {
+        copies.push(copy_agreement(alloc, agreement)?)?;
+    }
+    Ok(copies)
+}
+
+fn copy_agreement(
+    alloc: Global,
+    agreement: &WrittenAgreement,
+) -> Result<WrittenAgreement, AllocError>
+    ensures { IfOk result (λ copy. copy ≡ agreement.now) }
+{
+    Ok(WrittenAgreement {
+        groups: copy_names(alloc, &agreement.groups)?,
+        least: agreement.least,
+        most: agreement.most,
+        twice: agreement.twice,
+    })
 }

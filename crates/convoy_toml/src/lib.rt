@@ -2,10 +2,11 @@
 //! whose links several in one table, and of the schedule and the order of its ties where they are given.
 #![tactic(auto)]
 
+pub use agreements::{Agreement, with_agreements};
 pub use around::{Around, asked_around, span_asked, span_of};
 pub use asked::Asked;
 pub use bundle::Bundle;
-pub use copying::{copy_ends, copy_name, copy_names};
+pub use copying::{copy_agreements, copy_ends, copy_name, copy_names};
 pub use deadlines::{GREATEST_DEADLINE, deadlines_of_written};
 pub use divisor::common_divisor;
 pub use input::Input;
@@ -22,16 +23,18 @@ pub use target::TargetKey;
 pub use times::{bundles_of, draft_of_written, tick_of};
 pub use ways::{Way, ways_without_link};
 pub use written::{
-    LinkEnds, WrittenInput, WrittenLink, WrittenMulticast, WrittenScenario, WrittenTarget,
-    WrittenTime,
+    LinkEnds, WrittenAgreement, WrittenInput, WrittenLink, WrittenMulticast, WrittenScenario,
+    WrittenTarget, WrittenTime,
 };
 
+mod agreements;
 mod around;
 mod asked;
 mod bundle;
 mod copying;
 mod deadlines;
 mod divisor;
+mod group_tables;
 mod input;
 mod links;
 mod outside;

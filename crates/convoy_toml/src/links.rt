@@ -136,6 +136,7 @@ fn link_in(bundle: &Bundle, sender: Option<&Name>, to: &Name) -> Result<DraftLin
         to: to.copy()?,
         least: bundle.least,
         most: bundle.most,
+        stamps: bundle.stamps,
     })
 }
 

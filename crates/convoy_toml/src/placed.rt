@@ -17,6 +17,8 @@ pub enum ScenarioTable {
     Target,
     /// The table `[[link]]` of that number, from 0.
     Link(usize),
+    /// The table `[[group]]` of that number, from 0.
+    Group(usize),
 }
 
 /// A fault of a scenario text, with the table that it is of. The key in that table is part of the fault, where

@@ -1,5 +1,7 @@
 use super::placed::ScenarioTable;
-use super::written::{WrittenLink, WrittenMulticast, WrittenScenario, WrittenTime};
+use super::written::{
+    WrittenAgreement, WrittenLink, WrittenMulticast, WrittenScenario, WrittenTime,
+};
 use convoy_scenario::{Key, Time};
 
 /// A number of ticks that stands beside durations in a scenario text.
@@ -58,6 +60,15 @@ impl Sight {
             self.see(table, links.len(), Key::Most, Some(link.most));
         }
     }
+
+    fn see_agreements(&mut self, agreements: &[WrittenAgreement]) {
+        for (number, agreement) in agreements.iter().enumerate() {
+            let table = ScenarioTable::Group(number);
+            let among = agreements.len();
+            self.see(table, among, Key::Agree, Some(agreement.least));
+            self.see(table, among, Key::Agree, Some(agreement.most));
+        }
+    }
 }
 
 /// The first plain number beside durations, in real time and where the length of a tick is written; None where there is
@@ -74,6 +85,7 @@ pub fn plain_number(scenario: &WrittenScenario) -> Option<PlainNumber> {
     sight.see(ScenarioTable::Top, 1, Key::Least, scenario.least);
     sight.see_multicasts(&scenario.multicasts);
     sight.see_links(&scenario.links);
+    sight.see_agreements(&scenario.agreements);
     if sight.has_durations {
         sight.number
     } else {

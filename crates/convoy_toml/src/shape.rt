@@ -7,8 +7,9 @@ ghost use Rattle.toml.specs.View.{view, array_view, table_view};
 ghost use Rattle.convoy_draft.specs.Keys.{key_word};
 ghost use Rattle.convoy_scenario.specs.Memory.{IsUnlessMemory};
 ghost use Rattle.convoy_toml.specs.Shares.{outside_word};
-ghost use Rattle.convoy_toml.specs.Shape.{all_of, as_duration, as_when, as_tick, as_least, needs_delay, delay_of_table, need, need_all, wish, wish_all, names_in, as_names, as_both, both_of_table, ends_of_table, has_link_words, has_only, is_link_word, need_link_words, need_only, share_of_table, time_of_table, message_of_table, messages_of, link_of_table, links_of, links_of_table, written_target, target_of_table, scenario_of_table, setting_of_table, written_of_table, listed, listed_if_there, tables_listed, unit_in, unit_of_table};
+ghost use Rattle.convoy_toml.specs.Shape.{all_of, as_duration, as_when, as_tick, as_least, needs_delay, delay_of_table, need, need_all, wish, wish_all, names_in, as_names, as_both, both_of_table, ends_of_table, has_link_words, has_only, is_link_word, need_link_words, need_only, share_of_table, time_of_table, message_of_table, messages_of, link_of_table, links_of, links_of_table, written_target, target_of_table, scenario_of_table, setting_of_table, written_of_table, listed, listed_if_there, tables_listed, stamps_of_table, unit_in, unit_of_table};
 
+use super::group_tables::agreements_of_table;
 use super::placed::{Placed, ScenarioTable, in_table};
 use super::share::{OUTSIDE, share_told};
 use super::target::{TargetKey, first_target};
@@ -22,7 +23,7 @@ use toml::value::Array;
 use toml::{Table, Value};
 
 /// The value at a key.
-fn value_at(table: &Table, key: Key) -> Option<&Value>
+pub(crate) fn value_at(table: &Table, key: Key) -> Option<&Value>
     ensures { option_map (λ v. view v.now) result
         ≡ get_member (key_word key) (table_view table.now) }
 {
@@ -93,7 +94,11 @@ fn names(alloc: Global, table: &Table, key: Key) -> Result<Vec<Name>, ScenarioFa
     names_of(alloc, items, key)
 }
 
-fn tables_of<'a>(alloc: Global, items: &'a Array, key: Key) -> Result<Vec<&'a Table>, ScenarioFault>
+pub(crate) fn tables_of<'a>(
+    alloc: Global,
+    items: &'a Array,
+    key: Key,
+) -> Result<Vec<&'a Table>, ScenarioFault>
     ensures { IsUnlessMemory ScenarioFault.Memory
         (ok_or (all_of as_table (array_view items.now)) (ScenarioFault.Shape key))
         (tables_listed result) }
@@ -164,7 +169,7 @@ fn duration(value: &Value, time: Time) -> Option<Duration>
 }
 
 /// A number of ticks, or where time is real a duration.
-fn time_written(value: &Value, time: Time) -> Option<WrittenTime>
+pub(crate) fn time_written(value: &Value, time: Time) -> Option<WrittenTime>
     ensures { result ≡ as_when time (view value.now) }
 {
     match value.as_integer() {
@@ -291,7 +296,7 @@ fn has_only(table: &Table, keys: &[Key]) -> bool
     table.keys().all(|word| is_one_of(word.as_str(), keys))
 }
 
-fn need_only(table: &Table, keys: &[Key]) -> Result<(), ScenarioFault>
+pub(crate) fn need_only(table: &Table, keys: &[Key]) -> Result<(), ScenarioFault>
     ensures { result ≡ need_only keys.now (table_view table.now) }
 {
     if has_only(table, keys) {
@@ -366,7 +371,7 @@ fn names_in(alloc: Global, items: &Array, key: Key) -> Result<Vec<Name>, Scenari
 }
 
 /// The names that a value tells: a text tells one, and an array of texts those in it.
-fn names_told(alloc: Global, value: &Value, key: Key) -> Result<Vec<Name>, ScenarioFault>
+pub(crate) fn names_told(alloc: Global, value: &Value, key: Key) -> Result<Vec<Name>, ScenarioFault>
     ensures { IsUnlessMemory ScenarioFault.Memory
         (ok_or (as_names (view value.now)) (ScenarioFault.Shape key)) (listed result) }
 {
@@ -450,11 +455,28 @@ pub(crate) fn share_of_table(table: &Table) -> Result<Option<u64>, ScenarioFault
     Ok(Some(share))
 }
 
+/// Whether a group's own stamps go by the links of a table from a group to itself, too; they do not where the key is absent.
+fn stamps_of_table(table: &Table) -> Result<bool, ScenarioFault>
+    ensures { result ≡ stamps_of_table (table_view table.now) }
+{
+    match value_at(table, Key::Stamps) {
+        Some(value) => value.as_bool().ok_or(ScenarioFault::Shape(Key::Stamps)),
+        None => Ok(false),
+    }
+}
+
 /// Whether a word is a key of a table of links.
 fn is_link_word(word: &str) -> bool
     ensures { result ≡ is_link_word word.now }
 {
-    let keys = [Key::From, Key::To, Key::Both, Key::Least, Key::Most];
+    let keys = [
+        Key::From,
+        Key::To,
+        Key::Both,
+        Key::Least,
+        Key::Most,
+        Key::Stamps,
+    ];
     is_one_of(word, &keys) || OUTSIDE == word
 }
 
@@ -482,9 +504,15 @@ fn link_of_table(alloc: Global, table: &Table, time: Time) -> Result<WrittenLink
     let ends = ends_of_table(alloc, table)?;
     let least = when(table, Key::Least, time)?;
     let most = when(table, Key::Most, time)?;
+    let stamps = stamps_of_table(table)?;
     share_of_table(table)?;
     need_link_words(table)?;
-    Ok(WrittenLink { ends, least, most })
+    Ok(WrittenLink {
+        ends,
+        least,
+        most,
+        stamps,
+    })
 }
 
 fn links_of(alloc: Global, tables: &[&Table], time: Time) -> Result<Vec<WrittenLink>, Placed>
@@ -558,7 +586,8 @@ pub fn written_of_table(
     ensures { IsUnlessMemory ScenarioFault.Memory
         (written_of_table target.now (table_view table.now)) result }
 {
-    let scenario = scenario_of_table(alloc, table, target)?;
+    let mut scenario = scenario_of_table(alloc, table, target)?;
+    scenario.agreements = agreements_of_table(alloc, table, scenario.time)?;
     let schedule = integers(alloc, table, Key::Schedule)?;
     let order = integers(alloc, table, Key::Order)?;
     need_only(
@@ -572,6 +601,7 @@ pub fn written_of_table(
             Key::Multicast,
             Key::Target,
             Key::Link,
+            Key::Group,
             Key::Schedule,
             Key::Order,
         ],
@@ -583,8 +613,8 @@ pub fn written_of_table(
     })
 }
 
-/// The scenario as it is written in a table, whatever else stands there: of a faulty one the first fault of its shape, with
-/// the table that it is of; and `ScenarioFault::Memory` where memory runs out.
+/// The scenario as it is written in a table, but for what the replicas of groups need to agree, whatever else stands there: of
+/// a faulty one the first fault of its shape, with the table that it is of; and `ScenarioFault::Memory` where memory runs out.
 pub fn scenario_of_table(
     alloc: Global,
     table: &Table,
@@ -609,6 +639,7 @@ pub fn scenario_of_table(
         least,
         groups,
         links,
+        agreements: Vec::new(alloc),
         multicasts,
         target_message: target.message,
         target_group: target.group,
@@ -616,8 +647,8 @@ pub fn scenario_of_table(
 }
 
 /// What a table writes beside messages and a target, whatever else stands there: how time goes, the length of a tick, D, the
-/// least delay of what goes by no link, the groups, and the links. A faulty one has the first fault of its shape, with the table
-/// that it is of; and `ScenarioFault::Memory` where memory runs out.
+/// least delay of what goes by no link, the groups, the links, and what the replicas of groups need to agree. A faulty one has
+/// the first fault of its shape, with the table that it is of; and `ScenarioFault::Memory` where memory runs out.
 pub fn setting_of_table(alloc: Global, table: &Table) -> Result<WrittenScenario, Placed>
     ensures { IsUnlessMemory ScenarioFault.Memory (setting_of_table (table_view table.now)) result }
 {
@@ -627,6 +658,7 @@ pub fn setting_of_table(alloc: Global, table: &Table) -> Result<WrittenScenario,
     let least = least_of_table(table, time)?;
     let groups = names(alloc, table, Key::Groups)?;
     let links = links_of_table(alloc, table, time)?;
+    let agreements = agreements_of_table(alloc, table, time)?;
     Ok(WrittenScenario {
         time,
         tick,
@@ -634,6 +666,7 @@ pub fn setting_of_table(alloc: Global, table: &Table) -> Result<WrittenScenario,
         least,
         groups,
         links,
+        agreements,
         multicasts: Vec::new(alloc),
         target_message: Name::new(alloc, "")?,
         target_group: Name::new(alloc, "")?,

@@ -4,15 +4,17 @@ ghost use Rattle.std.specs.List.{list_all};
 ghost use Rattle.convoy_scenario.specs.Memory.{IsUnlessMemory};
 ghost use Rattle.convoy_toml.specs.Deadlines.{has_durations};
 ghost use Rattle.convoy_toml.specs.Shape.{listed};
-ghost use Rattle.convoy_toml.specs.Times.{if_written, whole_if_written, greatest_most, delay_or_greatest, is_least, need_least, times_of_message, times_of_links, is_count, is_lasting, length_of, divisor_of_all, times_of, tick_between, tick_of, ticks_in, ticks_of, whole, last_tick, draft_message_of, draft_messages_of, bundle_of, bundles_of, draft_of_written};
+ghost use Rattle.convoy_toml.specs.Times.{if_written, whole_if_written, greatest_most, delay_or_greatest, is_least, need_least, times_of_message, times_of_links, times_of_agreements, is_count, is_lasting, length_of, divisor_of_all, times_of, tick_between, tick_of, ticks_in, ticks_of, whole, last_tick, draft_message_of, draft_messages_of, bundle_of, bundles_of, agreement_of, agreements_of, draft_of_written};
 
+use super::agreements::{Agreement, with_agreements};
 use super::bundle::Bundle;
 use super::copying::{copy_ends, copy_name, copy_names};
 use super::divisor::common_divisor;
 use super::links::links_of_bundles;
 use super::placed::{Placed, ScenarioTable, in_table};
-use super::ways::with_least;
-use super::written::{WrittenLink, WrittenMulticast, WrittenScenario, WrittenTime};
+use super::written::{
+    WrittenAgreement, WrittenLink, WrittenMulticast, WrittenScenario, WrittenTime,
+};
 use convoy_scenario::{
     DraftLink, DraftMulticast, DraftScenario, Duration, Key, Limit, Name, ScenarioFault, Time,
     is_within,
@@ -49,6 +51,7 @@ fn times_of(alloc: Global, scenario: &WrittenScenario) -> Result<Vec<WrittenTime
     ensures { IfOk result (λ times. times.items ≡ times_of scenario.now) }
 {
     let mut times = Vec::new(alloc);
+    push_agreements(&mut times, &scenario.agreements)?;
     push_written(&mut times, scenario.delay)?;
     push_written(&mut times, scenario.least)?;
     push_issues(&mut times, &scenario.multicasts)?;
@@ -94,6 +97,20 @@ fn push_ranges(times: &mut Vec<WrittenTime>, links: &[WrittenLink]) -> Result<()
     for link in links {
         times.push(link.least)?;
         times.push(link.most)?;
+    }
+    Ok(())
+}
+
+/// Appends the least and the greatest time of each agreement.
+fn push_agreements(
+    times: &mut Vec<WrittenTime>,
+    agreements: &[WrittenAgreement],
+) -> Result<(), AllocError>
+    ensures { OnOk result (times.new.items ≡ times.old.items ++ times_of_agreements agreements.now) }
+{
+    for agreement in agreements {
+        times.push(agreement.least)?;
+        times.push(agreement.most)?;
     }
     Ok(())
 }
@@ -267,6 +284,7 @@ fn bundle_of(alloc: Global, tick: Option<u64>, link: &WrittenLink) -> Result<Bun
         ends: copy_ends(alloc, &link.ends)?,
         least,
         most,
+        stamps: link.stamps,
     })
 }
 
@@ -285,6 +303,41 @@ pub fn bundles_of(
         bundles.push(in_table(place, bundle_of(alloc, tick, link))?)?;
     }
     Ok(bundles)
+}
+
+/// What the replicas of groups need to agree, in ticks, in memory of its own.
+fn agreement_of(
+    alloc: Global,
+    tick: Option<u64>,
+    agreement: &WrittenAgreement,
+) -> Result<Agreement, ScenarioFault>
+    ensures { IsUnlessMemory ScenarioFault.Memory (agreement_of tick agreement.now) result }
+{
+    let least = whole(tick, Key::Agree, agreement.least)?;
+    let most = whole(tick, Key::Agree, agreement.most)?;
+    Ok(Agreement {
+        groups: copy_names(alloc, &agreement.groups)?,
+        least,
+        most,
+        twice: agreement.twice,
+    })
+}
+
+/// What the replicas of all groups need to agree, in ticks of so many nanoseconds, where a tick has a length; or the first
+/// of these times that is no whole number of ticks, with its table.
+fn agreements_of(
+    alloc: Global,
+    tick: Option<u64>,
+    written: &[WrittenAgreement],
+) -> Result<Vec<Agreement>, Placed>
+    ensures { IsUnlessMemory ScenarioFault.Memory (agreements_of tick written.now) (listed result) }
+{
+    let mut agreements = Vec::new(alloc);
+    for agreement in written {
+        let place = ScenarioTable::Group(agreements.len());
+        agreements.push(in_table(place, agreement_of(alloc, tick, agreement))?)?;
+    }
+    Ok(agreements)
 }
 
 /// The greatest of the greatest delays of all tables of links, in ticks, or 0 where there are none.
@@ -357,8 +410,9 @@ fn draft_in_ticks(
 }
 
 /// The scenario in ticks, with each link that its tables write, and where a least delay of what goes by none is written,
-/// a link with it for each way of that; or the first time that is no whole number of ticks, or that there are too many
-/// links, or that the least delay is beyond its limits (docs/FORMATS.md, "How faults are found").
+/// a link with it for each way of that, and with what the replicas of groups need to agree; or the first time that is no
+/// whole number of ticks, or that there are too many links, or that the least delay, or where replicas agree another
+/// range, is beyond its limits (docs/FORMATS.md, "How faults are found").
 pub fn draft_of_written(alloc: Global, scenario: &WrittenScenario) -> Result<DraftScenario, Placed>
     ensures { IsUnlessMemory ScenarioFault.Memory (draft_of_written scenario.now) result }
 {
@@ -368,9 +422,10 @@ pub fn draft_of_written(alloc: Global, scenario: &WrittenScenario) -> Result<Dra
     let least = whole_if_written(length, Key::Least, scenario.least)?;
     let multicasts = draft_multicasts_of(alloc, length, &scenario.multicasts)?;
     let bundles = bundles_of(alloc, length, &scenario.links)?;
+    let agreements = agreements_of(alloc, length, &scenario.agreements)?;
     let links = links_of_bundles(alloc, &bundles)?;
     let delay = delay_or_greatest(written, &bundles);
     need_least(scenario.time, delay, least)?;
     let draft = draft_in_ticks(alloc, scenario, tick, delay, links, multicasts)?;
-    Ok(with_least(alloc, least, draft)?)
+    Ok(with_agreements(alloc, least, &agreements, draft)?)
 }

@@ -2,6 +2,7 @@ ghost use Rattle.std.specs.Prelude.{◌≡◌, ◌++◌, ◌&&◌, not, map, fil
 ghost use Rattle.std.specs.List.{list_any};
 ghost use Rattle.convoy_draft.specs.declared.limits.TheConstants.{MOST_GROUPS};
 ghost use Rattle.convoy_draft.specs.Checks.{is_named_alike};
+ghost use Rattle.convoy_toml.specs.Agreements.{filled_by};
 ghost use Rattle.convoy_toml.specs.Ways.{carries, has_ranges, is_one_of, lacks_link, leads_along, link_along, ways_between, ways_from, ways_without_link, with_least};
 
 use super::links::copy_sender;
@@ -53,6 +54,21 @@ pub fn with_least(
     if least <= 1 {
         return Ok(draft);
     }
+    filled_by(alloc, Some(least), draft)
+}
+
+/// The draft, with a link for each way on which something goes without one, where their least delay is known: they have
+/// the range from that to D, in ticks.
+pub(crate) fn filled_by(
+    alloc: Global,
+    least: Option<i64>,
+    draft: DraftScenario,
+) -> Result<DraftScenario, AllocError>
+    ensures { IfOk result (λ linked. linked ≡ filled_by least draft) }
+{
+    let Some(least) = least else {
+        return Ok(draft);
+    };
     let ways = ways_without_link(alloc, &draft)?;
     let mut draft = draft;
     let delay = draft.delay;
@@ -101,6 +117,7 @@ fn push_along(
             to: way.to,
             least,
             most: delay,
+            stamps: false,
         })?;
     }
     Ok(())

@@ -1,5 +1,5 @@
 ghost use Rattle.std.specs.Prelude.{option_map};
-ghost use Rattle.convoy_toml.specs.Shape.{WrittenMessage, LinkEnds, WrittenLink, WrittenTarget, WrittenScenario, Written};
+ghost use Rattle.convoy_toml.specs.Shape.{WrittenMessage, LinkEnds, WrittenLink, WrittenAgreement, WrittenTarget, WrittenScenario, Written};
 
 use convoy_scenario::{Duration, Name, Time};
 use std::marker::Model;
@@ -61,12 +61,33 @@ pub struct WrittenLink {
     pub least: WrittenTime,
     /// The greatest delay.
     pub most: WrittenTime,
+    /// Whether a group's own stamps go by those from a group to itself, too.
+    pub stamps: bool,
 }
 
 impl Model for WrittenLink {
     ghost Value = { WrittenLink };
 
-    ghost view = { λ l. record { ends = l.ends; least = l.least; most = l.most } };
+    ghost view = { λ l. record { ends = l.ends; least = l.least; most = l.most; stamps = l.stamps } };
+}
+
+/// What the replicas of some groups need to agree as it is written, be it a range or not.
+#[derive(Drop)]
+pub struct WrittenAgreement {
+    /// The groups.
+    pub groups: Vec<Name>,
+    /// The least time from an entry given to the leader until it is applied there.
+    pub least: WrittenTime,
+    /// The greatest such time.
+    pub most: WrittenTime,
+    /// Whether they agree twice: once more before a message is committed.
+    pub twice: bool,
+}
+
+impl Model for WrittenAgreement {
+    ghost Value = { WrittenAgreement };
+
+    ghost view = { λ a. record { groups = a.groups.items; least = a.least; most = a.most; twice = a.twice } };
 }
 
 /// A target as it is written.
@@ -99,6 +120,8 @@ pub struct WrittenScenario {
     pub groups: Vec<Name>,
     /// The tables of links, in their order.
     pub links: Vec<WrittenLink>,
+    /// What the replicas of groups need to agree, in the order of the tables that say so.
+    pub agreements: Vec<WrittenAgreement>,
     /// The messages, in the order of their numbers.
     pub multicasts: Vec<WrittenMulticast>,
     /// The name of the message of which the latency is asked.
@@ -117,6 +140,7 @@ impl Model for WrittenScenario {
       least = s.least;
       groups = s.groups.items;
       links = s.links.items;
+      agreements = s.agreements.items;
       messages = s.multicasts.items;
       target_message = s.target_message;
       target_group = s.target_group;

@@ -1,5 +1,5 @@
 -- The text of a scenario with a schedule is ASCII.
-use Rattle.std.proofs.Common.{◌≡◌, ℕ, ◌+◌, ◌<◌, ◌^◌, true, List, [], ◌∷◌, ◌++◌, map, codes, decimal, Option, Some, None, refl, arith, IfSome, inl, inr}
+use Rattle.std.proofs.Common.{◌≡◌, ℕ, ◌+◌, ◌<◌, ◌^◌, Bool, true, false, List, [], ◌∷◌, ◌++◌, map, codes, decimal, Option, Some, None, refl, arith, IfSome, inl, inr}
 use Rattle.std.specs.List.{flat_map, AllByRecursion}
 use Rattle.std.specs.Str.{IsAscii}
 use Rattle.std.proofs.lemmas.Bool.{cases_Bool}
@@ -17,7 +17,7 @@ use Rattle.convoy_scenario.specs.Scenario.{Link, Message, Scenario, group_name_a
 use Rattle.convoy_packets.specs.Assignment.{Schedule}
 use Rattle.convoy_packets.specs.Order.{Order}
 use Rattle.convoy_packets.specs.OrderLists.{is_no_order, ranks_of}
-use Rattle.convoy_toml_writer.specs.Text.{further, listed, quoted, time_text, least_text, tick_text, order_text, head_text, sender_text, link_text, until_text, message_text, target_text, toml_text}
+use Rattle.convoy_toml_writer.specs.Text.{further, listed, quoted, time_text, least_text, tick_text, order_text, head_text, sender_text, link_text, stamps_text, until_text, message_text, target_text, toml_text}
 use Rattle.convoy_toml_writer.proofs.Plain.{are_plain, plain_ascii, ascii}
 use Rattle.convoy_toml_writer.proofs.Items.{always, each}
 use Rattle.convoy_toml_writer.proofs.Written.{AreSmall, IsWritable, IsWritableLink, IsWritableMessage}
@@ -87,6 +87,10 @@ sender_ascii scenario Client plain = IsAscii-nil
 sender_ascii scenario (Group g) plain =
     after (codes "from = \"") _ (ascii (codes "from = \"") refl) (after (group_name_at scenario g) (codes "\"\n") (plain_ascii (group_name_at scenario g) (plain g)) (ascii (codes "\"\n") refl))
 
+stamps_ascii : (stamps : Bool) → IsAscii (stamps_text stamps)
+stamps_ascii true = ascii (codes "stamps = true\n") refl
+stamps_ascii false = IsAscii-nil
+
 until_ascii : (message : Message) → message.at + message.longest_wait < 2 ^ 32 → IsAscii (until_text message)
 unfolding until_text
 until_ascii message small =
@@ -117,7 +121,7 @@ module _ (scenario : Scenario) (schedule : Schedule) (is : IsWritable scenario s
   link_ascii : (link : Link) → IsWritableLink link → IsAscii (link_text scenario link)
   unfolding link_text
   link_ascii link writable =
-      let most_on = between (codes "\nmost = ") (decimal link.most) (codes "\n") (ascii (codes "\nmost = ") refl) (number_ascii link.most writable.most) (ascii (codes "\n") refl) in
+      let most_on = between (codes "\nmost = ") (decimal link.most) _ (ascii (codes "\nmost = ") refl) (number_ascii link.most writable.most) (after (codes "\n") _ (ascii (codes "\n") refl) (stamps_ascii link.stamps)) in
       let least_on = between (codes "\"\nleast = ") (decimal link.least) _ (ascii (codes "\"\nleast = ") refl) (number_ascii link.least writable.least) most_on in
       let to_on = between (codes "to = \"") (group_name_at scenario link.to) _ (ascii (codes "to = \"") refl) (name_ascii link.to) least_on in
       between (codes "\n[[link]]\n") (sender_text scenario link.sender) _ (ascii (codes "\n[[link]]\n") refl) (sender_ascii scenario link.sender is.group_names) to_on

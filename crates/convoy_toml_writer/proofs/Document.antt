@@ -1,7 +1,7 @@
 -- The document of a scenario with a schedule: its lines as they are written, and the table that they are.
-use Rattle.std.proofs.Common.{ℕ, ◌+◌, if◌then◌else◌, List, [], ◌∷◌, ◌++◌, map, codes, pos, Option, Some, None}
+use Rattle.std.proofs.Common.{ℕ, ◌+◌, Bool, true, false, if◌then◌else◌, List, [], ◌∷◌, ◌++◌, map, codes, pos, Option, Some, None}
 use Rattle.std.specs.List.{flat_map}
-use Rattle.toml.specs.Data.{Data, string, integer, array, table, Members, no_members, member}
+use Rattle.toml.specs.Data.{Data, string, integer, boolean, array, table, Members, no_members, member}
 use Rattle.toml.specs.Tables.{Expression, key_value, std_table, array_table}
 use Rattle.toml.specs.View.{items_of}
 use Rattle.convoy_scenario.specs.declared.sender.Sender.{Sender}
@@ -83,6 +83,11 @@ abbrev pub sender_data : Scenario → Sender → Option Data
 sender_data scenario Client = None
 sender_data scenario (Group g) = Some (string (group_name_at scenario g))
 
+-- that a group's own stamps go by a link, too
+abbrev pub stamps_data : Bool → Option Data
+stamps_data true = Some (boolean true)
+stamps_data false = None
+
 abbrev pub until_data : Message → Option Data
 until_data message = if may_wait message then Some (number (message.at + message.longest_wait)) else None
 
@@ -120,7 +125,7 @@ head_pairs head =
 abbrev pub link_pairs : Scenario → Link → Pairs
 link_pairs scenario link =
     (codes "from", sender_data scenario link.sender) ∷ (codes "to", Some (string (group_name_at scenario link.to)))
-    ∷ (codes "least", Some (number link.least)) ∷ (codes "most", Some (number link.most)) ∷ []
+    ∷ (codes "least", Some (number link.least)) ∷ (codes "most", Some (number link.most)) ∷ (codes "stamps", stamps_data link.stamps) ∷ []
 
 abbrev pub message_pairs : Scenario → Message → Pairs
 message_pairs scenario message =
@@ -146,7 +151,7 @@ document_lines scenario schedule =
 abbrev pub link_table : Scenario → Link → Members
 link_table scenario link =
     with_member (codes "from") (sender_data scenario link.sender)
-    (member (codes "least") (number link.least) (member (codes "most") (number link.most) (member (codes "to") (string (group_name_at scenario link.to)) no_members)))
+    (member (codes "least") (number link.least) (member (codes "most") (number link.most) (with_member (codes "stamps") (stamps_data link.stamps) (member (codes "to") (string (group_name_at scenario link.to)) no_members))))
 
 abbrev pub message_table : Scenario → Message → Members
 message_table scenario message =

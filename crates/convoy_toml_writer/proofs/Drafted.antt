@@ -82,7 +82,7 @@ messages_same tick scenario (m ∷ ms) = rw (last_same tick m, messages_same tic
 
 -- a table of one link
 abbrev bundle : Scenario → Link → Bundle
-bundle scenario link = record { ends = (written_link scenario link).ends; least = pos link.least; most = pos link.most }
+bundle scenario link = record { ends = (written_link scenario link).ends; least = pos link.least; most = pos link.most; stamps = link.stamps }
 
 bundles_same : (tick : Option ℕ) (scenario : Scenario) (links : List Link) → bundles_of tick (map (written_link scenario) links) ≡ Ok (map (bundle scenario) links)
 bundles_same tick scenario [] = refl
@@ -147,16 +147,16 @@ least_adds_none Real draft = refl
 
 -- step by step
 in_steps : (scenario : WrittenScenario) (tick : Option ℕ) (delay : ℕ) (least : Option ℤ) (messages : List DraftMessage) (bundles : List Bundle) (links : List DraftLink) → tick_of scenario ≡ Ok tick → scenario.delay ≡ Some (Count (pos delay))
-    → whole_if_written tick Least scenario.least ≡ Ok least → draft_messages_of tick scenario.messages ≡ Ok messages → bundles_of tick scenario.links ≡ Ok bundles → links_of_bundles bundles ≡ Ok links → need_least scenario.time (pos delay) least ≡ Ok tt
+    → scenario.agreements ≡ [] → whole_if_written tick Least scenario.least ≡ Ok least → draft_messages_of tick scenario.messages ≡ Ok messages → bundles_of tick scenario.links ≡ Ok bundles → links_of_bundles bundles ≡ Ok links → need_least scenario.time (pos delay) least ≡ Ok tt
     → let draft : Draft = record { time = scenario.time; tick = tick; delay = pos delay; groups = scenario.groups; links = links; messages = messages; target_message = scenario.target_message; target_group = scenario.target_group } in
     draft_of_written scenario ≡ Ok (with_least least draft)
-in_steps scenario tick delay least messages bundles links has_tick has_delay has_least has_messages has_bundles has_links within = rw (has_tick, has_delay, has_least, has_messages, has_bundles, has_links, within) refl
+in_steps scenario tick delay least messages bundles links has_tick has_delay none_agree has_least has_messages has_bundles has_links within = rw (has_tick, has_delay, has_least, has_messages, has_bundles, none_agree, has_links, within) refl
 
 -- the draft of what is written
 pub draft_same : (scenario : Scenario) → 1 ≤ scenario.delay → length scenario.links ≤ MOST_LINKS → draft_of_written (written_scenario scenario) ≡ Ok (draft_for scenario)
 draft_same scenario some few =
     in_steps (written_scenario scenario) scenario.tick scenario.delay (least_ticks scenario.time) (map (draft_message scenario) scenario.multicasts) (map (bundle scenario) scenario.links) (map (draft_link scenario) scenario.links)
-    (tick_same scenario) refl (least_whole scenario.tick scenario.time) (messages_same scenario.tick scenario scenario.multicasts) (bundles_same scenario.tick scenario scenario.links) (links_same scenario scenario.links few) (least_within scenario.delay scenario.time some)
+    (tick_same scenario) refl refl (least_whole scenario.tick scenario.time) (messages_same scenario.tick scenario scenario.multicasts) (bundles_same scenario.tick scenario scenario.links) (links_same scenario scenario.links few) (least_within scenario.delay scenario.time some)
     ∙ ap Ok (least_adds_none scenario.time (draft_for scenario))
 
 -- ---- deadlines: none is written

@@ -1,5 +1,5 @@
 -- What the lines of the document leave: its table.
-use Rattle.std.proofs.Common.{◌≡◌, ℕ, List, [], ◌∷◌, ◌++◌, map, codes, Option, Some, None, option_map, option_and_then, refl, sym, ap, ◌∙◌, append_assoc}
+use Rattle.std.proofs.Common.{◌≡◌, ℕ, Bool, true, false, List, [], ◌∷◌, ◌++◌, map, codes, Option, Some, None, option_map, option_and_then, refl, sym, ap, ◌∙◌, append_assoc}
 use Rattle.std.specs.List.{flat_map}
 use Rattle.std.proofs.lemmas.List.{append-nil}
 use Rattle.std.proofs.lemmas.Option.{none-some, same_Some}
@@ -14,7 +14,7 @@ use Rattle.convoy_scenario.specs.declared.sender.Sender.TheVariants.{Client, Gro
 use Rattle.convoy_scenario.specs.Scenario.{Link, Message, Scenario, group_name_at, message_at}
 use Rattle.convoy_packets.specs.Assignment.{Schedule}
 use Rattle.convoy_toml_writer.proofs.Items.{map_same}
-use Rattle.convoy_toml_writer.proofs.Document.{number, with_member, some_tables, pair, Pairs, pair_lines, array_lines, Head, head_of, head_pairs, sender_data, until_data, names_data, link_pairs, message_pairs, target_pairs, document_lines, link_table, message_table, whole_table, document_table}
+use Rattle.convoy_toml_writer.proofs.Document.{number, with_member, some_tables, pair, Pairs, pair_lines, array_lines, Head, head_of, head_pairs, sender_data, stamps_data, until_data, names_data, link_pairs, message_pairs, target_pairs, document_lines, link_table, message_table, whole_table, document_table}
 
 -- ---- pairs
 
@@ -162,20 +162,24 @@ close_value (Some d) = refl
 abbrev link_nodes : Scenario → Link → Nodes
 link_nodes scenario link =
     with_node (codes "from") (option_map value (sender_data scenario link.sender))
-    (node (codes "least") (value (number link.least)) (node (codes "most") (value (number link.most)) (node (codes "to") (value (string (group_name_at scenario link.to))) no_nodes)))
+    (node (codes "least") (value (number link.least)) (node (codes "most") (value (number link.most)) (with_node (codes "stamps") (option_map value (stamps_data link.stamps)) (node (codes "to") (value (string (group_name_at scenario link.to))) no_nodes))))
 
 link_made : (scenario : Scenario) (link : Link) → puts (link_pairs scenario link) no_nodes ≡ Some (link_nodes scenario link)
 unfolding along_dots at_key
-link_made scenario link = by_sender link.sender where
-  by_sender : (sender : Sender) → puts (link_pairs scenario (record link { sender = sender })) no_nodes ≡ Some (link_nodes scenario (record link { sender = sender }))
-  by_sender Client = refl
-  by_sender (Group g) = refl
+link_made scenario link = by_sender link.sender link.stamps where
+  by_sender : (sender : Sender) (stamps : Bool) → puts (link_pairs scenario (record link { sender = sender; stamps = stamps })) no_nodes ≡ Some (link_nodes scenario (record link { sender = sender; stamps = stamps }))
+  by_sender Client true = refl
+  by_sender Client false = refl
+  by_sender (Group g) true = refl
+  by_sender (Group g) false = refl
 
 link_closed : (scenario : Scenario) (link : Link) → close (link_nodes scenario link) ≡ link_table scenario link
-link_closed scenario link = by_sender link.sender where
-  by_sender : (sender : Sender) → close (link_nodes scenario (record link { sender = sender })) ≡ link_table scenario (record link { sender = sender })
-  by_sender Client = refl
-  by_sender (Group g) = refl
+link_closed scenario link = by_sender link.sender link.stamps where
+  by_sender : (sender : Sender) (stamps : Bool) → close (link_nodes scenario (record link { sender = sender; stamps = stamps })) ≡ link_table scenario (record link { sender = sender; stamps = stamps })
+  by_sender Client true = refl
+  by_sender Client false = refl
+  by_sender (Group g) true = refl
+  by_sender (Group g) false = refl
 
 -- what the table of a message holds: the values of its keys
 abbrev message_values : Data → Option Data → Data → Data → Option Data → Nodes

@@ -1,5 +1,5 @@
 -- The lines of the document are such as its reader takes: values are not too deep, and have no dates.
-use Rattle.std.proofs.Common.{◌≡◌, ℕ, ◌≤◌, true, List, [], ◌∷◌, ◌++◌, map, codes, Option, Some, None, refl, arith, IfSome, inl, inr}
+use Rattle.std.proofs.Common.{◌≡◌, ℕ, ◌≤◌, Bool, true, false, List, [], ◌∷◌, ◌++◌, map, codes, Option, Some, None, refl, arith, IfSome, inl, inr}
 use Rattle.std.specs.List.{flat_map, AllByRecursion}
 use Rattle.std.proofs.lemmas.Bool.{cases_Bool}
 use Rattle.toml.specs.Data.{Data, string, array, depth, items_depth, has_valid_dates, items_have_valid_dates}
@@ -14,7 +14,7 @@ use Rattle.convoy_scenario.specs.Scenario.{Message, Scenario, may_wait}
 use Rattle.convoy_packets.specs.Assignment.{Schedule}
 use Rattle.convoy_packets.specs.Order.{Order}
 use Rattle.convoy_packets.specs.OrderLists.{is_no_order}
-use Rattle.convoy_toml_writer.proofs.Document.{Pairs, pair_lines, array_lines, time_data, least_data, tick_data, order_data, sender_data, until_data, head_of, head_pairs, link_pairs, message_pairs, target_pairs, document_lines}
+use Rattle.convoy_toml_writer.proofs.Document.{Pairs, pair_lines, array_lines, time_data, least_data, tick_data, order_data, sender_data, stamps_data, until_data, head_of, head_pairs, link_pairs, message_pairs, target_pairs, document_lines}
 
 -- a value that is a text, a number or an array of such
 abbrev IsShallow : Data → Type 0
@@ -64,6 +64,10 @@ sender_shallow : (scenario : Scenario) (sender : Sender) → IfSome (sender_data
 sender_shallow scenario Client = tt
 sender_shallow scenario (Group g) = (omega arith, refl)
 
+stamps_shallow : (stamps : Bool) → IfSome (stamps_data stamps) IsShallow
+stamps_shallow true = (omega arith, refl)
+stamps_shallow false = tt
+
 until_shallow : (message : Message) → IfSome (until_data message) IsShallow
 until_shallow message =
     elim (cases_Bool (may_wait message)) [
@@ -85,7 +89,7 @@ document_printed scenario schedule =
     (pairs_printed (head_pairs (head_of scenario schedule))
     (time_shallow scenario.time, (tick_shallow scenario.tick, ((omega arith, refl), (least_shallow scenario.time, (array_shallow string scenario.groups (λ x. refl) (λ x. refl), (array_shallow _ schedule.delays (λ n. refl) (λ n. refl), (order_shallow scenario schedule.order, tt))))))))
     (AllPrinted-append _ _
-    (tables_printed (codes "link") (link_pairs scenario) scenario.links (λ link. (sender_shallow scenario link.sender, ((omega arith, refl), ((omega arith, refl), ((omega arith, refl), tt))))))
+    (tables_printed (codes "link") (link_pairs scenario) scenario.links (λ link. (sender_shallow scenario link.sender, ((omega arith, refl), ((omega arith, refl), ((omega arith, refl), (stamps_shallow link.stamps, tt)))))))
     (AllPrinted-append _ _
     (tables_printed (codes "multicast") (message_pairs scenario) scenario.multicasts (λ m. ((omega arith, refl), (sender_shallow scenario m.sender, (array_shallow _ m.destinations (λ g. refl) (λ g. refl), ((omega arith, refl), (until_shallow m, tt)))))))
     (omega arith, pairs_printed (target_pairs scenario) ((omega arith, refl), ((omega arith, refl), tt)))))

@@ -1,5 +1,5 @@
 -- Worked rows: the text that is written of a scenario in real time, and of one in which a message may wait; and what they are read as.
-use Rattle.std.proofs.Common.{◌≡◌, ℕ, List, [], ◌∷◌, codes, Some, Ok, refl, replicate}
+use Rattle.std.proofs.Common.{◌≡◌, ℕ, false, List, [], ◌∷◌, codes, Some, Ok, refl, replicate}
 use Rattle.std.specs.Fmt.{digits}
 use Rattle.std.specs.Str.{chars, is_utf8}
 use Rattle.toml.proofs.OnLiterals.{toml_on_literals}
@@ -22,7 +22,7 @@ scenario = record (of_two Real 40 (record { name = codes "t"; sender = Client; d
     ∷ record { name = codes "y"; sender = Group 0; destinations = 1 ∷ []; at = 12; longest_wait = 0 } ∷ []) 0 1) {
       tick = Some 50_000;
       groups = codes "a" ∷ codes "b-2" ∷ [];
-      links = record { sender = Client; to = 0; least = 2; most = 3 } ∷ record { sender = Group 0; to = 1; least = 4; most = 40 } ∷ [];
+      links = record { sender = Client; to = 0; least = 2; most = 3; stamps = false } ∷ record { sender = Group 0; to = 1; least = 4; most = 40; stamps = false } ∷ [];
     }
 
 -- the commit of the first message at the second group comes last in its tick

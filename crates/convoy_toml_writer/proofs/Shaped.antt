@@ -8,6 +8,7 @@ use Rattle.toml.specs.View.{items_of}
 use Rattle.convoy_lines.specs.Results.{◌>>=◌}
 use Rattle.convoy_draft.specs.declared.fault.Key.{Key}
 use Rattle.convoy_draft.specs.declared.fault.Key.TheVariants.{Time, Tick, Delay, Least, Groups, Multicast, Target, Link, Schedule, Order}
+use Rattle.convoy_draft.specs.declared.fault.Key.TheVariants as key
 use Rattle.convoy_scenario.specs.declared.sender.Sender.{Sender}
 use Rattle.convoy_scenario.specs.declared.sender.Sender.TheVariants.{Client, Group}
 use Rattle.convoy_draft.specs.declared.time.Time.{Time as AnyTime}
@@ -26,7 +27,7 @@ use Rattle.convoy_toml.specs.Shape.{all_of, need, need_all, wish, wish_all, has_
 use Rattle.convoy_toml_writer.specs.WrittenTextLaws.{ranks_for}
 use Rattle.convoy_toml_writer.proofs.Document.{number, some_tables, time_data, least_data, tick_data, order_data, head_of, link_table, message_table, target_table, document_table}
 use Rattle.convoy_toml_writer.proofs.Durations.{duration_text}
-use Rattle.convoy_toml_writer.proofs.Looked.{delay_found, least_found, groups_found, time_found, tick_found, order_found, schedule_found, target_found, messages_found, links_found, only_known}
+use Rattle.convoy_toml_writer.proofs.Looked.{delay_found, least_found, groups_found, time_found, tick_found, order_found, schedule_found, target_found, messages_found, links_found, group_found, only_known}
 
 -- ---- one key
 
@@ -75,6 +76,7 @@ written_link scenario link = record {
   ends = record { senders = option_map (λ name. name ∷ []) (sender_name scenario link.sender); to = group_name_at scenario link.to ∷ []; both = false };
   least = Count (pos link.least);
   most = Count (pos link.most);
+  stamps = link.stamps;
 }
 
 message_shaped : (time : AnyTime) (scenario : Scenario) (message : Message) → message_of_table time (message_table scenario message) ≡ Ok (written_message scenario message)
@@ -92,10 +94,12 @@ messages_shaped time scenario (m ∷ ms) = rw (message_shaped time scenario m, m
 
 link_shaped : (time : AnyTime) (scenario : Scenario) (link : ScenarioLink) → link_of_table time (link_table scenario link) ≡ Ok (written_link scenario link)
 unfolding link_of_table
-link_shaped time scenario link = by_sender link.sender where
-  by_sender : (sender : Sender) → link_of_table time (link_table scenario (record link { sender = sender })) ≡ Ok (written_link scenario (record link { sender = sender }))
-  by_sender Client = refl
-  by_sender (Group g) = refl
+link_shaped time scenario link = by_sender link.sender link.stamps where
+  by_sender : (sender : Sender) (stamps : Bool) → link_of_table time (link_table scenario (record link { sender = sender; stamps = stamps })) ≡ Ok (written_link scenario (record link { sender = sender; stamps = stamps }))
+  by_sender Client true = refl
+  by_sender Client false = refl
+  by_sender (Group g) true = refl
+  by_sender (Group g) false = refl
 
 links_shaped : (time : AnyTime) (scenario : Scenario) (links : List ScenarioLink) → links_of time (map (link_table scenario) links) ≡ Ok (map (written_link scenario) links)
 links_shaped time scenario [] = refl
@@ -162,6 +166,7 @@ written_scenario scenario = record {
   least = written_least scenario.time;
   groups = scenario.groups;
   links = map (written_link scenario) scenario.links;
+  agreements = [];
   messages = map (written_message scenario) scenario.multicasts;
   target_message = (message_at scenario scenario.target_message).name;
   target_group = group_name_at scenario scenario.target_group;
@@ -172,11 +177,12 @@ in_steps : (rows : Members) (scenario : WrittenScenario) (message_rows : List Me
     → time_of_table rows ≡ Ok scenario.time → wish Tick (as_tick scenario.time) rows ≡ Ok scenario.tick → delay_of_table scenario.time rows ≡ Ok scenario.delay → wish Least (as_least scenario.time) rows ≡ Ok scenario.least → need_all Groups as_str rows ≡ Ok scenario.groups
     → need_all Multicast as_table rows ≡ Ok message_rows → messages_of scenario.time message_rows ≡ Ok scenario.messages → written_target rows ≡ Ok target
     → wish_all Link as_table rows ≡ Ok rows_of_links → links_of scenario.time (unwrap_or rows_of_links []) ≡ Ok scenario.links
-    → wish_all Schedule as_integer rows ≡ Ok schedule → wish_all Order as_integer rows ≡ Ok order → has_only (Time ∷ Tick ∷ Delay ∷ Least ∷ Groups ∷ Multicast ∷ Target ∷ Link ∷ Schedule ∷ Order ∷ []) rows ≡ true
+    → get_member (codes "group") rows ≡ None
+    → wish_all Schedule as_integer rows ≡ Ok schedule → wish_all Order as_integer rows ≡ Ok order → has_only (Time ∷ Tick ∷ Delay ∷ Least ∷ Groups ∷ Multicast ∷ Target ∷ Link ∷ key.Group ∷ Schedule ∷ Order ∷ []) rows ≡ true
     → target.message ≡ scenario.target_message → target.group ≡ scenario.target_group
-    → written_of_table Required rows ≡ Ok (record { scenario = scenario; schedule = schedule; order = order })
-in_steps rows scenario message_rows target schedule order rows_of_links time tick delay least groups tables_there messages target_there links_there links scheduled ordered known named at_group =
-    rw (time, tick, delay, least, groups, tables_there, messages, target_there, links_there, links, scheduled, ordered, known, named, at_group) refl
+    → written_of_table Required rows ≡ Ok (record { scenario = record scenario { agreements = [] }; schedule = schedule; order = order })
+in_steps rows scenario message_rows target schedule order rows_of_links time tick delay least groups tables_there messages target_there links_there links no_groups scheduled ordered known named at_group =
+    rw (time, tick, delay, least, groups, tables_there, messages, target_there, links_there, links, no_groups, scheduled, ordered, known, named, at_group) refl
 
 -- what is written in the document's table
 pub document_shaped : (scenario : Scenario) (schedule : ScenarioSchedule) (first_message : Message) (others : List Message) → scenario.multicasts ≡ first_message ∷ others → IfSome scenario.tick (IsReadable scenario.time)
@@ -202,6 +208,7 @@ document_shaped scenario schedule first_message others some tick =
     (need_target rows target (target_found head links messages target) refl)
     links_there
     (ap (links_of scenario.time) all_links ∙ links_shaped scenario.time scenario scenario.links)
+    (group_found head links messages target)
     (wish_all_found Schedule as_integer rows _ _ (schedule_found head links messages target) (all_given as_integer number pos schedule.delays (λ n. refl)))
     (order_shaped scenario schedule.order rows (order_found head links messages target))
     (only_known head links messages target) refl refl

@@ -1,10 +1,11 @@
 -- The text of a scenario with a schedule has the lines of its document.
-use Rattle.std.proofs.Common.{◌≡◌, ℕ, ◌+◌, ◌<◌, ◌^◌, true, false, List, [], ◌∷◌, ◌++◌, codes, decimal, Option, Some, None, refl, append_assoc, arith, IfSome, inl, inr}
+use Rattle.std.proofs.Common.{◌≡◌, ℕ, ◌+◌, ◌<◌, ◌^◌, Bool, true, false, List, [], ◌∷◌, ◌++◌, codes, decimal, Option, Some, None, refl, append_assoc, arith, IfSome, inl, inr}
 use Rattle.std.specs.Fmt.{digits}
 use Rattle.std.specs.List.{AllByRecursion}
 use Rattle.std.proofs.lemmas.Bool.{cases_Bool}
-use Rattle.toml.specs.Data.{Data, string}
+use Rattle.toml.specs.Data.{Data, string, boolean}
 use Rattle.toml.specs.Tables.{Expression, std_table}
+use Rattle.toml.specs.Text.{IsValueText}
 use Rattle.convoy_scenario.specs.declared.sender.Sender.{Sender}
 use Rattle.convoy_scenario.specs.declared.sender.Sender.TheVariants.{Client, Group}
 use Rattle.convoy_draft.specs.declared.time.Time.{Time}
@@ -14,11 +15,11 @@ use Rattle.convoy_scenario.specs.Scenario.{Link, Message, Scenario, group_name_a
 use Rattle.convoy_packets.specs.Assignment.{Schedule}
 use Rattle.convoy_packets.specs.Order.{Order}
 use Rattle.convoy_packets.specs.OrderLists.{is_no_order, ranks_of}
-use Rattle.convoy_toml_writer.specs.Text.{quoted, time_text, least_text, tick_text, order_text, head_text, sender_text, link_text, until_text, message_text, target_text, toml_text}
+use Rattle.convoy_toml_writer.specs.Text.{quoted, time_text, least_text, tick_text, order_text, head_text, sender_text, link_text, stamps_text, until_text, message_text, target_text, toml_text}
 use Rattle.convoy_toml_writer.proofs.Plain.{are_plain}
 use Rattle.convoy_toml_writer.proofs.Durations.{duration_text}
 use Rattle.convoy_toml_writer.proofs.Items.{each}
-use Rattle.convoy_toml_writer.proofs.Document.{number, pair, with_pair, pair_lines, array_lines, time_data, least_data, tick_data, order_data, sender_data, until_data, head_of, head_pairs, link_pairs, message_pairs, target_pairs, document_lines}
+use Rattle.convoy_toml_writer.proofs.Document.{number, pair, with_pair, pair_lines, array_lines, time_data, least_data, tick_data, order_data, sender_data, stamps_data, until_data, head_of, head_pairs, link_pairs, message_pairs, target_pairs, document_lines}
 use Rattle.convoy_toml_writer.proofs.Lines.{AreLines, no_lines, number_text, name_text, numbers_are, names_are, AreWords, pair_line, text_line, array_line, array_header, table_header, more_lines, all_lines}
 
 -- numbers of 32 bits
@@ -96,11 +97,19 @@ sender_line scenario (Group g) rest es plain more =
     let parts = append_assoc (group_name_at scenario g) (codes "\"\n") rest in
     rw parts (text_line true (codes "from") (group_name_at scenario g) rest es refl (plain g) more)
 
+-- the text of a truth value
+flag_text : IsValueText false (boolean true) (codes "true")
+flag_text = refl
+
+stamps_line : (stamps : Bool) → AreLines true (with_pair (codes "stamps") (stamps_data stamps) []) (stamps_text stamps)
+stamps_line true = pair_line true (codes "stamps") (codes "true") [] (boolean true) [] refl flag_text no_lines
+stamps_line false = no_lines
+
 link_lines : (scenario : Scenario) (link : Link) → ((g : ℕ) → are_plain (group_name_at scenario g) ≡ true) → IsWritableLink link
     → AreLines true (array_lines (codes "link") (link_pairs scenario link)) (link_text scenario link)
 unfolding link_text
 link_lines scenario link plain is =
-    let after_least = pair_line true (codes "most") (decimal link.most) [] (number link.most) [] refl (number_text link.most is.most) no_lines in
+    let after_least = pair_line true (codes "most") (decimal link.most) _ (number link.most) _ refl (number_text link.most is.most) (stamps_line link.stamps) in
     let after_to = pair_line true (codes "least") (decimal link.least) _ (number link.least) _ refl (number_text link.least is.least) after_least in
     let after_from = text_line true (codes "to") (group_name_at scenario link.to) _ _ refl (plain link.to) after_to in
     array_header (codes "link") _ _ refl (sender_line scenario link.sender _ _ plain after_from)

@@ -1,5 +1,5 @@
 -- The text of a scenario with a schedule: a document in TOML, the one that is written of them.
-use Rattle.std.specs.Prelude.{ℕ, ◌+◌, List, [], ◌∷◌, ◌++◌, map, if◌then◌else◌, Option, Some, None, codes, decimal}
+use Rattle.std.specs.Prelude.{ℕ, ◌+◌, Bool, true, false, List, [], ◌∷◌, ◌++◌, map, if◌then◌else◌, Option, Some, None, codes, decimal}
 use Rattle.std.specs.List.{flat_map}
 use Rattle.convoy_scenario.specs.declared.sender.Sender.{Sender}
 use Rattle.convoy_scenario.specs.declared.sender.Sender.TheVariants.{Client, Group}
@@ -67,13 +67,19 @@ unfoldable pub sender_text : Scenario → Sender → List ℕ
 sender_text scenario Client = []
 sender_text scenario (Group g) = codes "from = \"" ++ (group_name_at scenario g ++ codes "\"\n")
 
+-- the line that says that a group's own stamps go by a link, too; others have none
+abbrev pub stamps_text : Bool → List ℕ
+stamps_text true = codes "stamps = true\n"
+stamps_text false = []
+
 -- the table of a link, after an empty line
 unfoldable pub link_text : Scenario → Link → List ℕ
 link_text scenario link =
     codes "\n[[link]]\n" ++ (sender_text scenario link.sender
     ++ (codes "to = \"" ++ (group_name_at scenario link.to
     ++ (codes "\"\nleast = " ++ (decimal link.least
-    ++ (codes "\nmost = " ++ (decimal link.most ++ codes "\n")))))))
+    ++ (codes "\nmost = " ++ (decimal link.most
+    ++ (codes "\n" ++ stamps_text link.stamps))))))))
 
 -- the line of the last tick at which a message may be issued; one whose issue is known has none
 unfoldable pub until_text : Message → List ℕ

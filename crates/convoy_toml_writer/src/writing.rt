@@ -8,6 +8,7 @@ ghost use Rattle.convoy_toml_writer.specs.Text.{
   message_text,
   order_text,
   sender_text,
+  stamps_text,
   target_text,
   tick_text,
   time_text,
@@ -134,7 +135,15 @@ fn link_text(alloc: Global, scenario: &Scenario, link: &Link) -> Result<String, 
     let from = sender_text(alloc, scenario, link.sender)?;
     let to = group_name(scenario, link.to);
     let (least, most) = (link.least, link.most);
-    format!(in alloc; "\n[[link]]\n{from}to = \"{to}\"\nleast = {least}\nmost = {most}\n")
+    let stamps = stamps_text(link.stamps);
+    format!(in alloc; "\n[[link]]\n{from}to = \"{to}\"\nleast = {least}\nmost = {most}\n{stamps}")
+}
+
+/// The line that says that a group's own stamps go by a link, too; others have none.
+fn stamps_text(stamps: bool) -> &'static str
+    ensures { result.now ≡ stamps_text stamps }
+{
+    if stamps { "stamps = true\n" } else { "" }
 }
 
 /// The line of the group that sends; a client has none.

@@ -26,7 +26,7 @@ sending_of Proposal from message = Some (mark_by Arrival from [] message)
 abbrev pub sent_of : List Entry → Entry → Option Entry
 sent_of entries one = option_and_then (told_as entries) (sending_of one.kind one.from one.message)
 
--- the packet that was sent with the one and came with the other: what a group sends to itself does not count, by a link or by none
+-- the packet that was sent with the one and came with the other: what a group sends to itself, a message or a stamp, does not count, by a link or by none
 abbrev pub packet_between : Entry → Entry → Result (Option Packet) TraceFault
 packet_between sent one =
     if bytes_eq sent.group one.group then Ok None

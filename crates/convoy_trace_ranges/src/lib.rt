@@ -19,7 +19,5 @@ mod ranges;
 mod reading;
 mod shares;
 mod tables;
-#[cfg(test)]
-mod tests;
 mod texts;
 mod traced;

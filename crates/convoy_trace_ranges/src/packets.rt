@@ -68,7 +68,8 @@ fn sent_of<'a>(
     }
 }
 
-/// The packet that was sent with the one and came with the other; what a group sends to itself does not count.
+/// The packet that was sent with the one and came with the other; what a group sends to itself, a message or a stamp, does
+/// not count.
 fn packet_between<'a>(sent: &'a Entry, one: &'a Entry) -> Result<Option<Packet<'a>>, TraceFault>
     ensures { result ≡ packet_between sent.now one.now }
 {

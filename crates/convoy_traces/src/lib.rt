@@ -23,7 +23,5 @@ mod numbering;
 mod objects;
 mod reading;
 mod row;
-#[cfg(test)]
-mod tests;
 mod told;
 mod trace;

@@ -7,7 +7,7 @@ use Rattle.convoy_scenario.specs.declared.sender.Sender.TheVariants.{Client, Gro
 use Rattle.convoy_draft.specs.Draft.{Draft, DraftLink, DraftMessage}
 use Rattle.convoy_scenario.specs.Naming.{draft_for, draft_link, draft_message}
 use Rattle.convoy_scenario.specs.Numbering.{scenario_of_draft}
-use Rattle.convoy_scenario.specs.Scenario.{Link, Scenario, is_same_sender, message_at, message_numbers, range_between}
+use Rattle.convoy_scenario.specs.Scenario.{Link, Scenario, is_same_sender, message_at, message_numbers, own_stamps_take_time, range_between}
 use Rattle.convoy_packets.specs.declared.packet.Packet.{Packet}
 use Rattle.convoy_packets.specs.Assignment.{receiver_of, sender_of}
 use Rattle.convoy_packets.specs.Packets.{is_wait, packets_of}
@@ -28,16 +28,16 @@ narrows (Without n) link = false
 narrows (AtLeast sender to) link = is_same_sender sender link.sender && (to == link.to)
 narrows (AtMost sender to) link = is_same_sender sender link.sender && (to == link.to)
 
--- a link on which each packet takes so long
-abbrev pub fixed_link : Sender → ℕ → ℕ → Link
-fixed_link sender to delay = record { sender = sender; to = to; least = delay; most = delay }
+-- a link on which each packet takes so long, for stamps as what goes there is in the scenario
+abbrev pub fixed_link : Scenario → Sender → ℕ → ℕ → Link
+fixed_link scenario sender to delay = record { sender = sender; to = to; least = delay; most = delay; stamps = own_stamps_take_time scenario sender to }
 
 -- the link that a change brings, if it brings one
 abbrev pub new_links : Scenario → Change → List Link
 new_links scenario Nothing = []
 new_links scenario (Without n) = []
-new_links scenario (AtLeast sender to) = fixed_link sender to (range_between scenario sender to).0 ∷ []
-new_links scenario (AtMost sender to) = fixed_link sender to (range_between scenario sender to).1 ∷ []
+new_links scenario (AtLeast sender to) = fixed_link scenario sender to (range_between scenario sender to).0 ∷ []
+new_links scenario (AtMost sender to) = fixed_link scenario sender to (range_between scenario sender to).1 ∷ []
 
 -- the link by names, if it stays as it is
 abbrev pub links_left : Scenario → Change → Link → List DraftLink

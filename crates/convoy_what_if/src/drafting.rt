@@ -90,25 +90,26 @@ fn push_new(
     let link = match change {
         Change::Nothing | Change::Without { .. } => return Ok(()),
         Change::AtLeast { sender, to } => {
-            fixed_link(sender, to, scenario.range_between(sender, to).0)
+            fixed_link(scenario, sender, to, scenario.range_between(sender, to).0)
         }
         Change::AtMost { sender, to } => {
-            fixed_link(sender, to, scenario.range_between(sender, to).1)
+            fixed_link(scenario, sender, to, scenario.range_between(sender, to).1)
         }
     };
     links.push(draft_link(alloc, scenario, link)?)?;
     Ok(())
 }
 
-/// A link on which each packet takes so many ticks.
-fn fixed_link(sender: Sender, to: usize, delay: u16) -> Link
-    ensures { result ≡ fixed_link sender to delay }
+/// A link on which each packet takes so many ticks, for a group's own stamps if these take time in the scenario.
+fn fixed_link(scenario: &Scenario, sender: Sender, to: usize, delay: u16) -> Link
+    ensures { result ≡ fixed_link scenario.now sender to delay }
 {
     Link {
         sender,
         to,
         least: delay,
         most: delay,
+        stamps: scenario.own_stamps_take_time(sender, to),
     }
 }
 

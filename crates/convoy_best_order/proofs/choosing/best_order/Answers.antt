@@ -8,7 +8,7 @@ use Rattle.convoy_best_order.proofs.choosing.best_order.Goals as goal
 
 pub returns : goal.returns
 returns g c =
-    let rows = subst (λ (order : List ℕ). AreRows c.args.options.now c.args.scenario.now c.args.targets.now order c.in_ok-rows.rows.items) c.deref.ensures.value
+    let rows = subst (λ (order : List ℕ). AreRows c.args.options.now c.args.span c.args.scenario.now c.args.targets.now order c.in_ok-rows.rows.items) c.deref.ensures.value
     c.in_ok-rows.ensures in
     let least = subst (λ (reasons : List Reason). IsLeastOf (map excess_of_reason reasons) c.least_excess-least.result) c.deref-2.ensures.value
     c.least_excess-least.ensures in
@@ -20,6 +20,6 @@ returns g c =
       most = most;
       reasons = c.in_ok-order.ensures.reasons;
       least = least;
-      exact = best_exact c.args.options.now c.args.scenario.now c.args.targets.now c.in_ok-order.order.items c.in_ok-rows.rows.items c.in_ok-order.reasons.items
+      exact = best_exact c.args.options.now c.args.span c.args.scenario.now c.args.targets.now c.in_ok-order.order.items c.in_ok-rows.rows.items c.in_ok-order.reasons.items
           c.least_excess-least.result c.greatest_excess-most.result c.in_ok-order.ensures.order rows most least c.in_ok-order.ensures.held;
     }

@@ -36,14 +36,14 @@ loop-alloc-init g c =
       order = still_order c.args.scenario.now c.in_ok-ahead.ahead.items c.in_ok-left.left.items c.cheapest.result within is;
       some = still_all (λ (h : ℕ). IsTrue (has_target c.args.targets.now h)) c.in_ok-left.left.items c.cheapest.result within
           (rw c.in_ok-left.ensures (all_have c.args.targets.now c.args.scenario.now));
-      reasons = are_reasons c.args.options.now c.args.scenario.now c.args.targets.now c.deref-2.result.now c.in_ok-strongest.strongest.items
+      reasons = are_reasons c.args.options.now c.args.span c.args.scenario.now c.args.targets.now c.deref-2.result.now c.in_ok-strongest.strongest.items
           (omega (arith, known, same)) c.in_ok-strongest.ensures.groups c.in_ok-strongest.ensures.all;
-      held = next_held c.order_behind_is_free.ensures c.args.options.now c.args.scenario.now c.args.targets.now c.group_count-count.ensures.lawful c.requires.lawful
-          c.in_ok-ahead.ahead.items c.in_ok-left.left.items c.cheapest.result within is c.in_ok-strongest.strongest.items c.in_ok-strongest.strongest.items
+      held = next_held c.order_behind_is_free.ensures c.args.options.now c.args.span c.args.scenario.now c.args.targets.now c.group_count-count.ensures.lawful c.requires.lawful
+          c.requires.span c.in_ok-ahead.ahead.items c.in_ok-left.left.items c.cheapest.result within is c.in_ok-strongest.strongest.items c.in_ok-strongest.strongest.items
           c.in_ok-strongest.strongest.items (λ excess all. all) (λ excess all. all)
           (rw c.in_ok-ahead.ensures
-          (start_held c.args.options.now c.args.scenario.now c.args.targets.now c.in_ok-strongest.strongest.items c.in_ok-left.left.items))
-          (subst₂ (λ (ahead : List ℕ) (left : List ℕ). AreCosts c.args.scenario.now c.args.targets.now ahead left (costs_of c.in_ok-strongest.strongest.items))
+          (start_held c.args.options.now c.args.span c.args.scenario.now c.args.targets.now c.in_ok-strongest.strongest.items c.in_ok-left.left.items))
+          (subst₂ (λ (ahead : List ℕ) (left : List ℕ). AreCosts c.args.span c.args.scenario.now c.args.targets.now ahead left (costs_of c.in_ok-strongest.strongest.items))
           c.deref.ensures.value c.deref-2.ensures.value c.in_ok-strongest.ensures.costs)
           c.in_ok-strongest.ensures.dear
           (subst (λ (reasons : List Reason). IsCheapest (costs_of reasons) (length reasons) c.cheapest.result) c.deref-3.ensures.value c.cheapest.ensures);
@@ -64,14 +64,14 @@ loop-alloc-preserved g c =
       reasons = elim c.stronger-strongest.ensures.one [
         | inl e ↦ rw e c.loop-alloc.invariant.reasons
         | inr e ↦ rw e
-            (are_reasons c.args.options.now c.args.scenario.now c.args.targets.now c.deref-in-loop-alloc-2.result.now c.in_ok-reasons.reasons.items
+            (are_reasons c.args.options.now c.args.span c.args.scenario.now c.args.targets.now c.deref-in-loop-alloc-2.result.now c.in_ok-reasons.reasons.items
             (omega (arith, known, same)) c.in_ok-reasons.ensures.groups c.in_ok-reasons.ensures.all)
       ];
-      held = next_held c.order_behind_is_free.ensures c.args.options.now c.args.scenario.now c.args.targets.now c.group_count-count.ensures.lawful c.requires.lawful
-          c.loop-alloc.ahead.items c.loop-alloc.left.items c.cheapest-in-loop-alloc.result within c.loop-alloc.invariant.order c.loop-alloc.strongest.items
+      held = next_held c.order_behind_is_free.ensures c.args.options.now c.args.span c.args.scenario.now c.args.targets.now c.group_count-count.ensures.lawful c.requires.lawful
+          c.requires.span c.loop-alloc.ahead.items c.loop-alloc.left.items c.cheapest-in-loop-alloc.result within c.loop-alloc.invariant.order c.loop-alloc.strongest.items
           c.in_ok-reasons.reasons.items c.stronger-strongest.result.items c.stronger-strongest.ensures.no_weaker c.stronger-strongest.ensures.no_weaker_than_others
           c.loop-alloc.invariant.held
-          (subst₂ (λ (ahead : List ℕ) (left : List ℕ). AreCosts c.args.scenario.now c.args.targets.now ahead left (costs_of c.in_ok-reasons.reasons.items))
+          (subst₂ (λ (ahead : List ℕ) (left : List ℕ). AreCosts c.args.span c.args.scenario.now c.args.targets.now ahead left (costs_of c.in_ok-reasons.reasons.items))
           c.deref-in-loop-alloc.ensures.value c.deref-in-loop-alloc-2.ensures.value c.in_ok-reasons.ensures.costs)
           c.in_ok-reasons.ensures.dear
           (subst (λ (reasons : List Reason). IsCheapest (costs_of reasons) (length reasons) c.cheapest-in-loop-alloc.result) c.deref-in-loop-alloc-3.ensures.value
@@ -81,5 +81,5 @@ loop-alloc-preserved g c =
 pub returns-clause-held : goal.returns-clause-held
 returns-clause-held g c =
     let none : c.loop-alloc.left.items ≡ [] = grind (arith, common_steps, c.loop-alloc-test.false, c.is_empty.ensures) in
-    all_held c.args.options.now c.args.scenario.now c.args.targets.now c.loop-alloc.strongest.items c.loop-alloc.ahead.items c.loop-alloc.left.items
+    all_held c.args.options.now c.args.span c.args.scenario.now c.args.targets.now c.loop-alloc.strongest.items c.loop-alloc.ahead.items c.loop-alloc.left.items
     c.group_count-count.ensures.lawful c.requires.lawful none c.loop-alloc.invariant.order c.loop-alloc.invariant.held

@@ -11,8 +11,8 @@ abbrev pub invariant-loop-alloc : goal.invariant-loop-alloc
 invariant-loop-alloc g l = record {
   order : IsOrder l.scenario (l.ahead.items ++ l.left.items);
   some : All (λ group. IsTrue (has_target l.targets group)) l.left.items;
-  reasons : AreReasons l.options l.scenario l.targets l.strongest.items;
-  held : AreHeldBy l.options l.scenario l.targets l.strongest.items l.ahead.items l.left.items;
+  reasons : AreReasons l.options l.span l.scenario l.targets l.strongest.items;
+  held : AreHeldBy l.options l.span l.scenario l.targets l.strongest.items l.ahead.items l.left.items;
 }
 
 abbrev pub decreases-loop-alloc : goal.decreases-loop-alloc

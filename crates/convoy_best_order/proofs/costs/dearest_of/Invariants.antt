@@ -8,6 +8,6 @@ use Rattle.convoy_best_order.proofs.costs.dearest_of.Given as goal
 abbrev pub invariant-loop-place : goal.invariant-loop-place
 invariant-loop-place g l = record {
   some : is_some l.dearest ≡ list_any (is_at l.group) (take l.place l.targets);
-  dearest : IfSome l.dearest (IsDearest l.options l.scenario l.targets l.order l.group);
-  kept : AreKeptBy l.scenario l.order l.group l.dearest (take l.place l.targets);
+  dearest : IfSome l.dearest (IsDearest l.options l.span l.scenario l.targets l.order l.group);
+  kept : AreKeptBy l.span l.scenario l.order l.group l.dearest (take l.place l.targets);
 }

@@ -17,17 +17,17 @@ returns-clause-some g c target at =
 pub returns-clause-dearest : goal.returns-clause-dearest
 returns-clause-dearest g c =
     rw c.dearer.ensures
-    (dearer_is c.args.options.now c.args.scenario.now c.args.targets.now c.args.order.now c.args.group c.args.dearest _ c.in_ok-spread.spread
+    (dearer_is c.args.options.now c.args.span c.args.scenario.now c.args.targets.now c.args.order.now c.args.group c.args.dearest _ c.in_ok-spread.spread
     c.requires.order c.requires.dearest (Contains-get_or c.args.targets.now c.args.place _ c.requires.known) c.if-target-group.false c.in_ok-spread.ensures)
 
 pub returns-clause-kept : goal.returns-clause-kept
 returns-clause-kept g c =
     rw c.dearer.ensures
-    (dearer_kept c.args.scenario.now c.args.order.now c.args.group c.args.targets.now c.args.place _ c.requires.known c.args.dearest c.in_ok-spread.spread
+    (dearer_kept c.args.span c.args.scenario.now c.args.order.now c.args.group c.args.targets.now c.args.place _ c.requires.known c.args.dearest c.in_ok-spread.spread
     c.requires.kept
-    (found_kept c.args.options.now c.args.scenario.now c.args.order.now _ c.in_ok-spread.spread c.in_ok-spread.ensures))
+    (found_kept c.args.options.now c.args.span c.args.scenario.now c.args.order.now _ c.in_ok-spread.spread c.in_ok-spread.ensures))
 
 pub returns-then-target-group-clause-kept : goal.returns-then-target-group-clause-kept
 returns-then-target-group-clause-kept g c =
-    still_kept c.args.scenario.now c.args.order.now c.args.group c.args.targets.now c.args.place _ c.requires.known c.args.dearest c.if-target-group.true
+    still_kept c.args.span c.args.scenario.now c.args.order.now c.args.group c.args.targets.now c.args.place _ c.requires.known c.args.dearest c.if-target-group.true
     c.requires.kept

@@ -14,11 +14,11 @@ pub returns : goal.returns
 returns g c = record {
   at = rw c.in_ok-dearest.ensures.dearest.at (slice_get-get_or c.args.left.now c.args.place _ c.requires.known);
   told =
-      is_reason c.args.options.now c.args.scenario.now c.args.targets.now c.args.ahead.now c.args.left.now c.args.place _ c.requires.known c.requires.next.order
+      is_reason c.args.options.now c.args.span c.args.scenario.now c.args.targets.now c.args.ahead.now c.args.left.now c.args.place _ c.requires.known c.requires.next.order
       c.in_ok-order.ensures
       (c.in_ok-dearest.ensures.dearest.at ∙ get_or_default c.args.left.now c.args.place _ 0 c.requires.known)
       c.in_ok-dearest.ensures.dearest.of_target
-      (subst (λ (order : List ℕ). IsSpreadIn c.args.options.now c.args.scenario.now order c.in_ok-dearest.dearest.target c.in_ok-dearest.dearest.spread)
+      (subst (λ (order : List ℕ). IsSpreadIn c.args.options.now c.args.span c.args.scenario.now order c.in_ok-dearest.dearest.target c.in_ok-dearest.dearest.spread)
       c.deref.ensures.value c.in_ok-dearest.ensures.dearest.found);
   kept = rw (← c.in_ok-order.ensures, ← c.deref.ensures.value, c.in_ok-dearest.ensures.dearest.at) c.in_ok-dearest.ensures.kept;
   dear = c.in_ok-dearest.ensures.dearest.exact;

@@ -11,7 +11,7 @@ budget_each-requires-clause-lawful g c κs within =
 
 pub returns : goal.returns
 returns g c =
-    let all = all_told c.args.options.now c.args.of_ceiling c.args.instance.now c.args.targets.now c.deref-2.result.now c.in_ok-rows.rows.items c.in_ok-all_values.field-0
+    let all = all_told c.args.options.now c.args.of_ceiling c.args.span c.args.instance.now c.args.targets.now c.deref-2.result.now c.in_ok-rows.rows.items c.in_ok-all_values.field-0
     (c.deref-2.ensures.value ∙ c.in_ok-keys.ensures
     ∙ ap (λ (ways : List Way). flat_map (keys_of ways) c.args.targets.now) (c.deref.ensures.value ∙ c.in_ok-ways.ensures))
     (rw c.scenario-scenario.ensures.value at c.in_ok-rows.ensures) c.in_ok-all_values.ensures in

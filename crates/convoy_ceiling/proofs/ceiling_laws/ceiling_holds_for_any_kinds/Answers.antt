@@ -8,4 +8,5 @@ returns c =
       within = c.delays_are_within.ensures;
       fixed = c.fixed_order_is_order.ensures;
       unsent = c.unsent_takes_no_time.ensures;
+      homes = c.homes_decide_what_takes_time.ensures;
     })

@@ -8,4 +8,4 @@ abbrev pub invariant-loop-from : goal.invariant-loop-from
 invariant-loop-from l =
     l.packets.items
     ≡ l.initial.packets.items
-    ++ flat_map (propose_packets l.message (message_at l.scenario l.message)) (take l.from-index l.from-items)
+    ++ flat_map (propose_packets l.scenario l.message (message_at l.scenario l.message)) (take l.from-index l.from-items)

@@ -30,6 +30,7 @@ returns g c =
       lawful = c.message_count-count.ensures.lawful;
       deadlines = c.in_ok-scenario.ensures.deadlines;
       times = rw (c.of-times.ensures, c.of.ensures, c.unit.ensures, c.in_ok-scenario.ensures.unit) refl;
+      span = c.span_of-span.ensures.value;
       surveyed = c.in_ok-rows.ensures;
       runs =
           subst (λ (targets : List (ℕ × ℕ)). AreRunsOf c.args.asked.now c.args.options.now c.args.text.now scenario targets c.in_ok-runs.runs.items)

@@ -14,9 +14,9 @@ make_each-requires-clause-takes g c = λ κs outlive k d small lent watch is.
 
 pub returns : goal.returns
 returns g c =
-    let tells = TellsCeiling c.args.scenario.now (goal.F-post g c.args.seek.now) in
+    let tells = TellsCeiling c.args.span c.args.scenario.now (goal.F-post g c.args.seek.now) in
     let told = by_keys _ tells _ c.in_ok-rows.rows.items (λ lent watch row made. made) c.in_ok-rows.ensures in
     record {
       targets = keys_are tells (λ t. t) ceiled_target _ c.in_ok-rows.rows.items (λ t row is. is.of_target) told ∙ map-id c.deref.result.now ∙ c.deref.ensures.value ∙ c.in_ok-targets.ensures.targets;
-      told = all_rows tells (IsCeiledBy c.args.scenario.now (goal.F-post g c.args.seek.now)) _ c.in_ok-rows.rows.items (λ t row is. is.told) told;
+      told = all_rows tells (IsCeiledBy c.args.span c.args.scenario.now (goal.F-post g c.args.seek.now)) _ c.in_ok-rows.rows.items (λ t row is. is.told) told;
     }

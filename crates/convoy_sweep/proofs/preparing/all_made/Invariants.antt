@@ -5,4 +5,4 @@ use Rattle.convoy_sweep.proofs.preparing.all_made.Given as goal
 
 abbrev pub invariant-loop-point : goal.invariant-loop-point
 invariant-loop-point l =
-    all_made l.sweep l.written l.points ≡ (all_made l.sweep l.written (drop l.point-index l.points) >>= λ rest. Ok (l.made.items ++ rest))
+    all_made l.asked.around l.sweep l.written l.points ≡ (all_made l.asked.around l.sweep l.written (drop l.point-index l.points) >>= λ rest. Ok (l.made.items ++ rest))

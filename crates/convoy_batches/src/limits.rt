@@ -1,0 +1,2 @@
+/// How many jobs a batch has at most.
+pub const MOST_JOBS: u32 = 1_000;

@@ -1,5 +1,0 @@
-use Rattle.convoy_tasks.proofs.Yeses.{yes_is_given}
-use Rattle.convoy_tasks.proofs.task_laws.yes_is_given.Goals as goal
-
-pub returns : goal.returns
-returns c = yes_is_given c.texts_differ.ensures

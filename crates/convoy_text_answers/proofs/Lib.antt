@@ -1,0 +1,2 @@
+pub mod Withins
+pub mod Yeses
