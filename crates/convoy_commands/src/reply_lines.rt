@@ -24,8 +24,9 @@ pub fn push_ceiling(
 }
 
 /// Appends a line of a word and a number of ticks, which is told in the unit of the measure as well where there is one.
+/// Fails where memory runs out, and else never; a front of the line may have been appended then.
 #[tactic(auto, using(std::proofs::lemmas::List::append_assoc))]
-pub(crate) fn push_ticks_line(
+pub fn push_ticks_line(
     word: &str,
     measure: Option<Measure>,
     ticks: u32,
@@ -44,7 +45,7 @@ pub(crate) fn push_ticks_line(
 /// Appends how a greatest latency that is at least and at most so many ticks keeps a deadline, where there is one: a
 /// line with what is left to it or is too much, in ticks and, where there is a measure, in its unit (docs/FORMATS.md,
 /// "Deadlines"). Fails where memory runs out, and else never; a front of the line may have been appended then.
-pub(crate) fn push_verdict(
+pub fn push_verdict(
     measure: Option<Measure>,
     deadline: Option<u32>,
     least: u32,
@@ -67,7 +68,7 @@ pub(crate) fn push_verdict(
 /// it in per cent (docs/FORMATS.md, "How sure ranges are"). Fails where memory runs out, and else never; a front of the line
 /// may have been appended then.
 #[tactic(auto, using(std::proofs::lemmas::List::append_assoc))]
-pub(crate) fn push_outside(outside: Option<u64>, out: &mut Vec<u8>) -> Result<(), AllocError>
+pub fn push_outside(outside: Option<u64>, out: &mut Vec<u8>) -> Result<(), AllocError>
     ensures { OnOk result (out.new.items ≡ out.old.items ++ outside_text outside) }
 {
     let Some(billionths) = outside else {
@@ -80,9 +81,10 @@ pub(crate) fn push_outside(outside: Option<u64>, out: &mut Vec<u8>) -> Result<()
 }
 
 /// Appends the line of a search that did not end: the least and the most that the greatest latency
-/// may be, in ticks and, where there is a measure, in its unit.
+/// may be, in ticks and, where there is a measure, in its unit. Fails where memory runs out, and else never; a front of the
+/// line may have been appended then.
 #[tactic(auto, using(std::proofs::lemmas::List::append_assoc))]
-pub(crate) fn push_open(
+pub fn push_open(
     measure: Option<Measure>,
     least: u32,
     most: u32,

@@ -11,18 +11,18 @@ use std::alloc::{AllocError, Global};
 /// What is known of the greatest latency of a message at all the groups that it goes to: when a client that waits for
 /// all of them has its answer.
 #[derive(Clone, Copy)]
-pub(crate) struct AtAll {
+pub struct AtAll {
     /// What it is at least, in ticks; none where memory ran out at one of the groups.
-    pub(crate) least: Option<u32>,
+    pub least: Option<u32>,
     /// What it is at most, in ticks; none where memory ran out at one of the groups.
-    pub(crate) most: Option<u32>,
+    pub most: Option<u32>,
     /// Why it is so late in a schedule that has the least; none where memory ran out.
-    pub(crate) cause: Option<Cause>,
+    pub cause: Option<Cause>,
 }
 
 impl AtAll {
     /// What is known by the rows of the message.
-    pub(crate) fn of(rows: &[Surveyed]) -> AtAll
+    pub fn of(rows: &[Surveyed]) -> AtAll
         ensures { result ≡ at_all rows.now }
     {
         let least = least_at_all(rows);
@@ -38,7 +38,7 @@ impl AtAll {
     }
 
     /// The words for what is known: of a fault those of its line.
-    pub(crate) fn answer(self) -> &'static str
+    pub fn answer(self) -> &'static str
         ensures { result.now ≡ answer_at_all self.least self.most }
     {
         let (Some(least), Some(most)) = (self.least, self.most) else {
@@ -49,7 +49,7 @@ impl AtAll {
 }
 
 /// The rows of a message. Fails where memory runs out, and else never.
-pub(crate) fn rows_of(
+pub fn rows_of(
     alloc: Global,
     message: usize,
     rows: &[Surveyed],
@@ -66,7 +66,7 @@ pub(crate) fn rows_of(
 }
 
 /// The greatest ceiling of a message's rows, in ticks.
-pub(crate) fn ceiling_at_all(scenario: &Scenario, rows: &[Surveyed]) -> u32
+pub fn ceiling_at_all(scenario: &Scenario, rows: &[Surveyed]) -> u32
     requires { All (λ row. row.message < length scenario.now.multicasts) rows.now }
     ensures { result ≡ ceiling_at_all scenario.now rows.now }
 {
@@ -100,7 +100,7 @@ fn most_at_all(rows: &[Surveyed]) -> Option<u32>
 }
 
 /// The greater of two numbers, where both are known.
-pub(crate) fn greater(number: Option<u32>, other: Option<u32>) -> Option<u32>
+pub fn greater(number: Option<u32>, other: Option<u32>) -> Option<u32>
     ensures { result ≡ greater number other }
 {
     match (number, other) {

@@ -79,8 +79,9 @@ pub(crate) fn at_all_cells(
     Ok(cells)
 }
 
-/// Puts a ceiling at the end of a row, in ticks and as a time, where ceilings are asked for.
-fn push_ceiling_if(
+/// Puts a ceiling at the end of a row, in ticks and as a time, where ceilings are asked for. Fails where memory runs out,
+/// and else never.
+pub fn push_ceiling_if(
     alloc: Global,
     with_ceilings: bool,
     times: &Times,
@@ -96,8 +97,9 @@ fn push_ceiling_if(
     push_time_if_told(alloc, times, Some(ceiling), cells)
 }
 
-/// Puts a message and a group at the end of a row, by their names.
-pub(crate) fn push_target(
+/// Puts a message and a group at the end of a row, by their names, or an empty word for a number that is none. Fails where
+/// memory runs out, and else never.
+pub fn push_target(
     scenario: &Scenario,
     message: usize,
     group: usize,
@@ -109,8 +111,8 @@ pub(crate) fn push_target(
     cells.push_word(group_name(scenario, group))
 }
 
-/// Puts a message, by its name, at all groups at the end of a row.
-pub(crate) fn push_target_at_all(
+/// Puts a message, by its name, at all groups at the end of a row. Fails where memory runs out, and else never.
+pub fn push_target_at_all(
     scenario: &Scenario,
     message: usize,
     cells: &mut Row,
@@ -139,8 +141,9 @@ pub fn push_finding(
     push_cause(scenario, finding, cells)
 }
 
-/// Puts what is known of a message at all its groups at the end of a row: the cells of the same columns.
-fn push_known(
+/// Puts what is known of a message at all its groups at the end of a row: the cells of the same columns. Fails where memory
+/// runs out, and else never.
+pub fn push_known(
     alloc: Global,
     times: &Times,
     scenario: &Scenario,

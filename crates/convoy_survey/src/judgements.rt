@@ -120,8 +120,9 @@ fn push_margin(
     push_time_if_told(alloc, times, margin, cells)
 }
 
-/// Puts the names of the same columns at the end of a row, in a table that is judged where a message has a deadline.
-pub(crate) fn push_judged_columns(
+/// Puts the names of the same columns at the end of a row, in a table that is judged where a message has a deadline. Fails
+/// where memory runs out, and else never.
+pub fn push_judged_columns(
     deadlines: &[Option<u32>],
     times: &Times,
     columns: &mut Row,
@@ -131,8 +132,9 @@ pub(crate) fn push_judged_columns(
     push_verdict_columns(has_deadline(deadlines), times, columns)
 }
 
-/// Puts their cells for a latency of a message at the end of a row, in such a table.
-pub(crate) fn push_judged(
+/// Puts their cells for a latency of a message at the end of a row, in such a table. Fails where memory runs out, and else
+/// never.
+pub fn push_judged(
     alloc: Global,
     deadlines: &[Option<u32>],
     times: &Times,

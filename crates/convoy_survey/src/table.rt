@@ -107,8 +107,9 @@ fn columns_of(
     Ok(columns)
 }
 
-/// Puts the names of the columns of the ceiling at the end of a row, where it is asked for.
-fn push_ceiling_columns_if(
+/// Puts the names of the columns of the ceiling at the end of a row, where it is asked for. Fails where memory runs out, and
+/// else never.
+pub fn push_ceiling_columns_if(
     with_ceilings: bool,
     times: &Times,
     columns: &mut Row,
