@@ -22,6 +22,8 @@ pub(super) fn task_of(
         "sweep" => sweep_for(alloc, given, asked),
         "ranges" => ranges_for(alloc, given),
         "ceiling" => ceiling_for(alloc, given, asked),
+        "latency" => Ok(found(given, asked, latency_task_of(alloc, given)?)),
+        "survey" => Ok(found(given, asked, survey_task_of(alloc, given)?)),
         "fits" => Ok(Task::Trace(TraceTask::Fits {
             skew: skew_of(alloc, given)?,
             unit: unit_of(given),
@@ -113,12 +115,17 @@ fn of_scenario(what: ScenarioTask, asked: Asked) -> Task {
 /// What the command of that name has searched for, or what it asks without a search.
 fn search_for(name: &str, given: &ArgMatches<'_>, asked: Asked) -> Task {
     match search_task_of(name, given) {
-        Some(what) => Task::Search {
-            asked,
-            options: options_of(given),
-            what,
-        },
+        Some(what) => found(given, asked, what),
         None => of_scenario(ScenarioTask::First, asked),
+    }
+}
+
+/// What is found in a scenario by searches.
+fn found(given: &ArgMatches<'_>, asked: Asked, what: SearchTask) -> Task {
+    Task::Search {
+        asked,
+        options: options_of(given),
+        what,
     }
 }
 
@@ -126,9 +133,6 @@ fn search_for(name: &str, given: &ArgMatches<'_>, asked: Asked) -> Task {
 fn search_task_of(name: &str, given: &ArgMatches<'_>) -> Option<SearchTask> {
     match name {
         "analyse" => Some(SearchTask::Analyse),
-        "latency" => Some(SearchTask::Latency {
-            with_ceiling: given.get_flag("ceiling"),
-        }),
         "report" => Some(SearchTask::Report),
         "budget" => Some(SearchTask::Budget {
             format: format_of(given),
@@ -136,7 +140,6 @@ fn search_task_of(name: &str, given: &ArgMatches<'_>) -> Option<SearchTask> {
             of_ceiling: given.get_flag("ceiling"),
         }),
         "order" => Some(order_task_of(given)),
-        "survey" => Some(survey_task_of(given)),
         _ => None,
     }
 }
@@ -273,25 +276,29 @@ fn sweep_for(alloc: Global, given: &ArgMatches<'_>, asked: Asked) -> Result<Task
             envelope,
         }
     };
-    Ok(Task::Search {
-        asked,
-        options: options_of(given),
-        what,
+    Ok(found(given, asked, what))
+}
+
+/// What `latency` asks for.
+fn latency_task_of(alloc: Global, given: &ArgMatches<'_>) -> Result<SearchTask, Unasked> {
+    Ok(SearchTask::Latency {
+        with_ceiling: given.get_flag("ceiling"),
+        outage: outage_of(alloc, given)?,
     })
 }
 
 /// The table that `survey` asks for.
-fn survey_task_of(given: &ArgMatches<'_>) -> SearchTask {
+fn survey_task_of(alloc: Global, given: &ArgMatches<'_>) -> Result<SearchTask, Unasked> {
     let format = format_of(given);
     if given.get_flag("without") {
-        SearchTask::WhatIf {
+        return Ok(SearchTask::WhatIf {
             format,
             shows_all: given.get_flag("all"),
-        }
-    } else {
-        SearchTask::Survey {
-            format,
-            with_ceilings: given.get_flag("ceiling"),
-        }
+        });
     }
+    Ok(SearchTask::Survey {
+        format,
+        with_ceilings: given.get_flag("ceiling"),
+        outage: outage_of(alloc, given)?,
+    })
 }

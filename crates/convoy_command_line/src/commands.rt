@@ -87,7 +87,8 @@ const COMMANDS: [Listed; 20] = [
         about: help::ABOUT_LATENCY,
         long_about: help::LONG_ABOUT_LATENCY,
         settings: &[
-            TARGET, AROUND, AT_MOST, LIMIT, SECONDS, SEEK, BOUNDS, WORKERS, PROGRESS, UNIT, CEILING,
+            TARGET, AROUND, AT_MOST, OUTAGE, LIMIT, SECONDS, SEEK, BOUNDS, WORKERS, PROGRESS, UNIT,
+            CEILING,
         ],
     },
     Listed {
@@ -123,6 +124,7 @@ const COMMANDS: [Listed; 20] = [
             UNIT,
             SURVEY_CEILING,
             AT_MOST,
+            OUTAGE,
             EACH_AROUND,
             WITHOUT,
             CHANGES_TARGET,

@@ -289,6 +289,11 @@ status is 0, 'beyond by N', where at least N are too many and it is 5, or 'undec
 where neither is known and it is 3.
   convoy latency --at-most \"400 ms\" scenario.toml
 
+With `--outage SPAN` a line 'outage-latency V' stands below the first: no latency is
+above V where groups are silent in outages that last SPAN in all, as when another
+replica takes over. The deadline is then judged by V. It takes two searches more.
+  convoy latency --outage \"5 s\" scenario.toml
+
 Where links say which share of their packets may be out of range, as by the key
 `outside`, a line tells in at most which share of runs some packet is.";
 
@@ -309,8 +314,8 @@ makes a scenario that other commands read, as `simulate` and `analyse`. Where L
 is U no number below U is safe, and the exit status is 0; else it is 3.
 
 Where the target's message has a deadline, by its key `within` or by `--at-most`, a
-third line tells whether all such traffic keeps it, as with `latency`, and so does the
-exit status. In tables columns VERDICT and BY do.
+line below 'attained L' tells whether all such traffic keeps it, as with `latency`, and
+so does the exit status. In tables columns VERDICT and BY do.
 
 With `--all` a table is written instead, with a row for each message at each group
 that it goes to, and with `--group GROUP` for each message that goes to that group:
@@ -350,8 +355,8 @@ pub(crate) const ABOUT_KINDS: &str =
     "Reads kinds of messages in place of a scenario, of which there may be thousands";
 
 pub(crate) const ABOUT_OUTAGE: &str = "\
-Tells what no latency is above through outages that last so long in all while a message
-is on its way, in ticks or as '5 s'; deadlines are judged by that";
+Tells what no latency is above through outages that last so long in all, of `ceiling` from
+a message's issue to its delivery, in ticks or as '5 s'; deadlines are judged by that";
 
 pub(crate) const ABOUT_GROUP: &str =
     "Tells the ceiling at this group of each message that goes to it, as a table";
@@ -399,6 +404,10 @@ unless `--all` is given.
   convoy survey --without scenario.toml
   change   message  from    to  answer    least  most  rival  tied  nodes
   nothing  -        -       -   greatest     12    12  y      x         1
+
+With `--outage SPAN` a column OUTAGE_LATENCY tells what no latency is above through
+outages that last SPAN in all, by which deadlines are then judged. It may not stand
+beside `--without`.
 
 Where a message has a deadline, by its key `within` or by `--at-most`, VERDICT tells
 how it is kept: 'within', 'beyond' or 'undecided'; and BY by how many ticks.

@@ -276,7 +276,7 @@ pub(crate) const KINDS: Setting = Setting {
     company: Company::WithoutAny(&["target", "at-most", "group", "jobs", "outage"]),
 };
 
-/// How long outages last in all, through which ceilings are told.
+/// How long outages last in all, through which it is told what no latency is above.
 pub(crate) const OUTAGE: Setting = Setting {
     name: "outage",
     about: ABOUT_OUTAGE,
@@ -289,7 +289,7 @@ pub(crate) const WITHOUT: Setting = Setting {
     name: "without",
     about: ABOUT_WITHOUT,
     value: Value::Absent,
-    company: Company::Without("ceiling"),
+    company: Company::WithoutAny(&["ceiling", "outage"]),
 };
 
 /// Whether a survey of changes has a row for each, also where nothing changes.

@@ -19,7 +19,7 @@ const OF_SOME: [(&str, &str); 26] = [
     ),
     ("group", "'ceiling'"),
     ("kinds", "'ceiling'"),
-    ("outage", "'ceiling'"),
+    ("outage", "'latency', 'survey' and 'ceiling'"),
     (
         "ceiling",
         "'latency', 'explain', 'survey', 'budget' and 'plan'",

@@ -13,3 +13,11 @@ pub fn hint_for_outage(alloc: Global, fault: OutageFault) -> Result<String, Allo
         ),
     }
 }
+
+/// What an answer through outages that is open says, in one line `hint: ..`.
+pub fn hint_for_open_through_outages(alloc: Global) -> Result<String, AllocError> {
+    String::from_str(
+        alloc,
+        "hint: no latency is above the one through outages, and some schedule without outages has the least; whether a run through outages is later than that is not known\n",
+    )
+}

@@ -20,10 +20,10 @@ use convoy_hints::{
     hint_for_changes, hint_for_difference, hint_for_file_as_group, hint_for_first,
     hint_for_given_order, hint_for_given_schedule, hint_for_greatest, hint_for_jobs,
     hint_for_late_certificate, hint_for_late_message, hint_for_leads, hint_for_length,
-    hint_for_limit, hint_for_named_group, hint_for_order, hint_for_order_in_ticks, hint_for_outage,
-    hint_for_plain_number, hint_for_plan, hint_for_reading, hint_for_scenario, hint_for_seconds,
-    hint_for_tickets, hint_for_unchecked, hint_for_writing, hint_of_text, is_name_of_file,
-    line_for_file,
+    hint_for_limit, hint_for_named_group, hint_for_open_through_outages, hint_for_order,
+    hint_for_order_in_ticks, hint_for_outage, hint_for_plain_number, hint_for_plan,
+    hint_for_reading, hint_for_scenario, hint_for_seconds, hint_for_tickets, hint_for_unchecked,
+    hint_for_writing, hint_of_text, is_name_of_file, line_for_file,
 };
 use convoy_plans::PlanFault;
 use convoy_scenario::Scenario;
@@ -394,6 +394,9 @@ fn hint_for_open<R, W>(alloc: Global, run: &Finished<'_, R, W>) -> Hint {
         let hint = hint_for_ceiling(alloc, with_outages, simulations, MOST_SIMULATIONS)?;
         return Ok(Some(hint));
     }
+    if asks_for_outages(run.verdict) {
+        return hint_for_open_through_outages(alloc).map(Some);
+    }
     let Some(options) = options_of(run.verdict) else {
         return Ok(None);
     };
@@ -428,7 +431,7 @@ fn traffic_sought(verdict: &Verdict) -> Option<u64> {
     }
 }
 
-/// Whether the command line asks for ceilings through outages.
+/// Whether the command line asks what no latency is above through outages.
 fn asks_for_outages(verdict: &Verdict) -> bool {
     match task_of(verdict) {
         Some(
@@ -436,7 +439,11 @@ fn asks_for_outages(verdict: &Verdict) -> bool {
                 what: ScenarioTask::Ceiling { outage, .. },
                 ..
             }
-            | Task::Ceilings { outage, .. },
+            | Task::Ceilings { outage, .. }
+            | Task::Search {
+                what: SearchTask::Latency { outage, .. } | SearchTask::Survey { outage, .. },
+                ..
+            },
         ) => outage.is_some(),
         _ => false,
     }

@@ -1,5 +1,5 @@
 -- The compressed scenario, of which each run through outages is a run where their ticks are made shorter.
-use Rattle.std.specs.Prelude.{ℕ, ◌+◌, ◌-◌, ◌/◌, ◌<◌, max, min, nat_le, Bool, ◌&&◌, not, List, map, filter, fold, Option, Some, None, if◌then◌else◌}
+use Rattle.std.specs.Prelude.{ℕ, ◌+◌, ◌-◌, ◌/◌, max, min, nat_le, Bool, ◌&&◌, not, map, filter, fold, Option, Some, None, if◌then◌else◌}
 use Rattle.std.specs.Int.{div_ceil}
 use Rattle.std.specs.List.{list_all}
 use Rattle.convoy_draft.specs.declared.limits.TheConstants.{GREATEST_DELAY, LONGEST_WAIT}

@@ -1,4 +1,5 @@
 use convoy_best_order::Wanted;
+use convoy_outages::Outage;
 use convoy_sweep::{Setting, Sweep};
 use convoy_tables::Format;
 
@@ -7,14 +8,18 @@ use convoy_tables::Format;
 pub enum SearchTask {
     /// A certificate of the greatest latency.
     Analyse,
-    /// The greatest latency, and whether the ceiling of the scenario is told below it.
+    /// The greatest latency, what none is above through outages where these are asked for, and whether the ceiling of the
+    /// scenario is told below it.
     Latency {
         with_ceiling: bool,
+        outage: Option<Outage>,
     },
-    /// The greatest latency of each message at each group, as a table, and whether each row has its ceiling.
+    /// The greatest latency of each message at each group, as a table, with what none is above through outages where these
+    /// are asked for, and whether each row has its ceiling.
     Survey {
         format: Format,
         with_ceilings: bool,
+        outage: Option<Outage>,
     },
     /// The greatest latency of the target with each change of one thing, as a table, and whether each change that changes
     /// nothing has a row of its own.

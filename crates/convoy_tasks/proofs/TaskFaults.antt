@@ -1,5 +1,5 @@
 -- The faults that the rule of a task allows for a text: none is a device's.
-use Rattle.std.proofs.Common.{◌≡◌, inl, inr, ℕ, Bool, true, false, cond, nat_le, List, Option, Some, None, Result, Ok, Err, length, string_bytes}
+use Rattle.std.proofs.Common.{◌≡◌, ◌⊎◌, inl, inr, ℕ, Bool, true, false, cond, nat_le, List, Option, Some, None, Result, Ok, Err, length, string_bytes}
 use Rattle.std.specs.Option.{option_map}
 use Rattle.std.specs.Result.{result_map_both}
 use Rattle.convoy_streams.specs.declared.reading.ReadFault.TheVariants.{TooLong}
@@ -24,13 +24,13 @@ use Rattle.convoy_commands.specs.declared.telling.Telling.{Telling}
 use Rattle.convoy_commands.specs.Asks.{AskSays}
 use Rattle.convoy_commands.specs.First.{first_text}
 use Rattle.convoy_commands.specs.Inputs.{reply_of_reading, reply_to_form}
-use Rattle.convoy_commands.specs.Ceilings.{CeilingSays}
+use Rattle.convoy_commands.specs.Ceilings.{CeilingSays, IsOutageRefused}
 use Rattle.convoy_commands.specs.Faults.{told_of_kinds, told_of_plan, told_of_ranges, told_of_trace}
 use Rattle.convoy_commands.specs.Ranging.{RangesSay, links_told}
 use Rattle.convoy_commands.specs.Replies.{fine}
 use Rattle.convoy_commands.specs.Searches.{IsFaultyBy}
 use Rattle.convoy_commands.specs.Tells.{TellSays, certificate_told, job_told}
-use Rattle.convoy_commands.specs.WithCeilings.{explain_says, latency_says}
+use Rattle.convoy_commands.specs.WithCeilings.{explain_says}
 use Rattle.convoy_commands.proofs.CheckTexts.{check_no_device, text_fault}
 use Rattle.convoy_commands.proofs.DrawTexts.{draw_no_device}
 use Rattle.convoy_commands.proofs.ExplainTexts.{explain_no_device}
@@ -84,7 +84,7 @@ use Rattle.convoy_text_answers.specs.LinkAnswers.{beside_reply, beside_says, lin
 use Rattle.convoy_trace_ranges.specs.Answers.{trace_ranges_text}
 use Rattle.convoy_trace_ranges.specs.Beside.{beside_told}
 use Rattle.convoy_trace_ranges.specs.LinkTables.{trace_table_text}
-use Rattle.convoy_tasks.specs.Tasks.{certificate_says, kinds_say, plan_says, scenario_says, search_says, task_says, trace_task_says}
+use Rattle.convoy_tasks.specs.Tasks.{certificate_says, kinds_say, latency_by, plan_says, scenario_says, search_says, survey_by, task_says, trace_task_says}
 
 -- the fault of an answer is that of the reply
 fault_of_fine : (answer : Result (List ℕ) Fault) (fault : Fault) → Err fault ≡ fine answer → answer ≡ Err fault
@@ -139,9 +139,20 @@ ceilings_no_device format outage asked unit group text fault (inl faulty) = sear
 ceilings_no_device format outage asked unit group text fault (inr (inl unknown)) = rw unknown.told tt
 ceilings_no_device format outage asked unit group text fault (inr (inr refused)) = rw refused.told tt
 
-latency_no_device : (with_ceiling : Bool) (asked : Asked) (settings : Settings) (text : List ℕ) (fault : Fault) → latency_says with_ceiling asked settings text (Err fault) → IsNoDevice fault
-latency_no_device true asked settings text fault says = search_no_device asked text fault says
-latency_no_device false asked settings text fault says = search_no_device asked text fault says
+through_no_device : (outage : Outage) (asked : Asked) (text : List ℕ) (fault : Fault) → IsFaultyBy asked text fault ⊎ IsOutageRefused (Some outage) asked text fault → IsNoDevice fault
+through_no_device outage asked text fault (inl faulty) = search_no_device asked text fault faulty
+through_no_device outage asked text fault (inr refused) = rw refused.told tt
+
+latency_no_device : (outage : Option Outage) (with_ceiling : Bool) (asked : Asked) (settings : Settings) (text : List ℕ) (fault : Fault)
+    → latency_by outage with_ceiling asked settings text (Err fault) → IsNoDevice fault
+latency_no_device None true asked settings text fault says = search_no_device asked text fault says
+latency_no_device None false asked settings text fault says = search_no_device asked text fault says
+latency_no_device (Some outage) with_ceiling asked settings text fault says = through_no_device outage asked text fault says
+
+survey_no_device : (outage : Option Outage) (format : Format) (with_ceilings : Bool) (asked : Asked) (settings : Settings) (text : List ℕ) (fault : Fault)
+    → survey_by outage format with_ceilings asked settings text (Err fault) → IsNoDevice fault
+survey_no_device None format with_ceilings asked settings text fault says = search_no_device asked text fault says
+survey_no_device (Some outage) format with_ceilings asked settings text fault says = through_no_device outage asked text fault says
 
 what_if_no_device : (format : Format) (shows_all : Bool) (asked : Asked) (settings : Settings) (text : List ℕ) (fault : Fault) → WhatIfSays format shows_all asked settings text (Err fault) → IsNoDevice fault
 what_if_no_device format shows_all asked settings text fault (inl faulty) = search_no_device asked text fault faulty
@@ -271,8 +282,8 @@ scenario_says_no_device (scenario_tasks.Ceiling simulations outage unit) asked t
 
 search_says_no_device : (what : SearchTask) (asked : Asked) (settings : Settings) (text : List ℕ) (fault : Fault) → search_says what asked settings text (Err fault) → IsNoDevice fault
 search_says_no_device searches.Analyse asked settings text fault says = search_no_device asked text fault says
-search_says_no_device (searches.Latency with_ceiling) asked settings text fault says = latency_no_device with_ceiling asked settings text fault says
-search_says_no_device (searches.Survey format with_ceilings) asked settings text fault says = search_no_device asked text fault says
+search_says_no_device (searches.Latency with_ceiling outage) asked settings text fault says = latency_no_device outage with_ceiling asked settings text fault says
+search_says_no_device (searches.Survey format with_ceilings outage) asked settings text fault says = survey_no_device outage format with_ceilings asked settings text fault says
 search_says_no_device (searches.WhatIf format shows_all) asked settings text fault says = what_if_no_device format shows_all asked settings text fault says
 search_says_no_device searches.Report asked settings text fault says = report_no_device asked settings text fault says
 search_says_no_device (searches.Budget format of_all of_ceiling) asked settings text fault says = budget_no_device format of_all of_ceiling asked settings text fault says

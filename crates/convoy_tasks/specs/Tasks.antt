@@ -1,5 +1,5 @@
 -- The tasks: what each may answer for a text, and how long the text may be.
-use Rattle.std.specs.Prelude.{ℕ, Bool, Option, string_bytes}
+use Rattle.std.specs.Prelude.{ℕ, Bool, Option, Some, None, string_bytes}
 use Rattle.std.specs.Option.{option_map}
 use Rattle.convoy_scenario.specs.Scenario.{Scenario}
 use Rattle.convoy_commands.specs.declared.asking.Asking.TheVariants as askings
@@ -14,6 +14,9 @@ use Rattle.convoy_commands.specs.Searches.{AnalyseSays}
 use Rattle.convoy_commands.specs.Tells.{TellSays}
 use Rattle.convoy_commands.specs.WithCeilings.{explain_says, latency_says}
 use Rattle.convoy_commands.specs.Withins.{SaysWithin}
+use Rattle.convoy_outages.specs.declared.outage.Outage.{Outage}
+use Rattle.convoy_outage_answers.specs.Latencies.{latency_through_says}
+use Rattle.convoy_outage_answers.specs.SurveysThrough.{SurveyThroughSays}
 use Rattle.convoy_survey.specs.CeilingTables.{CeilingsSay}
 use Rattle.convoy_survey.specs.Surveys.{SurveySays}
 use Rattle.convoy_what_if.specs.WhatIf.{WhatIfSays}
@@ -36,6 +39,7 @@ use Rattle.convoy_text_answers.specs.Abouts.{check_says}
 use Rattle.convoy_text_answers.specs.FitsAnswers.{trace_says}
 use Rattle.convoy_text_answers.specs.KindAnswers.{KindTableSays, WorstKindSays}
 use Rattle.convoy_text_answers.specs.LinkAnswers.{TraceRangesSay, TraceTableSays, beside_says}
+use Rattle.convoy_tables.specs.declared.format.Format.{Format}
 use Rattle.convoy_task_list.specs.declared.of_certificates.CertificateTask.{CertificateTask}
 use Rattle.convoy_task_list.specs.declared.of_certificates.CertificateTask.TheVariants as certificates
 use Rattle.convoy_task_list.specs.declared.of_kinds.KindsTask.{KindsTask}
@@ -58,11 +62,21 @@ scenario_says scenarios.First asked = FirstSays asked
 scenario_says scenarios.Text asked = ScenarioTextSays asked
 scenario_says (scenarios.Ceiling simulations outage unit) asked = CeilingSays outage asked unit
 
+-- the greatest latency, with what none is above through outages where these are asked for, and the ceiling of the scenario where that is
+abbrev pub latency_by : Option Outage → Bool → Asked → Settings → Rule
+latency_by None with_ceiling asked settings = latency_says with_ceiling asked settings
+latency_by (Some outage) with_ceiling asked settings = latency_through_says with_ceiling outage asked settings
+
+-- the greatest latencies of all targets, likewise
+abbrev pub survey_by : Option Outage → Format → Bool → Asked → Settings → Rule
+survey_by None format with_ceilings asked settings = SurveySays format with_ceilings asked settings
+survey_by (Some outage) format with_ceilings asked settings = SurveyThroughSays format with_ceilings outage asked settings
+
 -- what is found in it by searches with these settings
 abbrev pub search_says : SearchTask → Asked → Settings → Rule
 search_says searches.Analyse asked settings = AnalyseSays asked settings
-search_says (searches.Latency with_ceiling) asked settings = latency_says with_ceiling asked settings
-search_says (searches.Survey format with_ceilings) asked settings = SurveySays format with_ceilings asked settings
+search_says (searches.Latency with_ceiling outage) asked settings = latency_by outage with_ceiling asked settings
+search_says (searches.Survey format with_ceilings outage) asked settings = survey_by outage format with_ceilings asked settings
 search_says (searches.WhatIf format shows_all) asked settings = WhatIfSays format shows_all asked settings
 search_says searches.Report asked settings = ReportSays asked settings
 search_says (searches.Budget format of_all of_ceiling) asked settings = BudgetSays format of_all of_ceiling asked settings

@@ -5,7 +5,7 @@ ghost use Rattle.convoy_commands.specs.WithCeilings.{explain_says};
 ghost use Rattle.convoy_commands.specs.Withins.{SaysWithin};
 ghost use Rattle.convoy_commands.specs.declared.done.Done.TheVariants.{NotChecked};
 ghost use Rattle.convoy_survey.specs.CeilingTables.{CeilingsSay};
-ghost use Rattle.convoy_tasks.specs.Tasks.{IsToldAtOnce, certificate_says, kinds_say, longest_for, longest_for_plan, plan_says, scenario_says, search_says, task_says, trace_task_says};
+ghost use Rattle.convoy_tasks.specs.Tasks.{IsToldAtOnce, certificate_says, kinds_say, latency_by, longest_for, longest_for_plan, plan_says, scenario_says, search_says, survey_by, task_says, trace_task_says};
 
 use super::scenario_text::answer_scenario;
 use convoy_batches::{LONGEST_BATCH, batch_table_answer};
@@ -13,9 +13,10 @@ use convoy_best_order::{Wanted, listing_answer, order_answer};
 use convoy_best_plan::{PlanWatch, placing_answer, plan_answer};
 use convoy_budget::budget_answer;
 use convoy_commands::{
-    Answer, Asking, Fault, LONGEST_CERTIFICATE, LONGEST_JOB, Options, analyse_answer, ask,
+    Answer, Asking, Fault, LONGEST_CERTIFICATE, LONGEST_JOB, Options, Watch, analyse_answer, ask,
     ceiling_answer, explain_with_ceiling, first_answer, latency_answer, ranges_answer, tell,
 };
+use convoy_outage_answers::{latency_through_answer, survey_through_answer};
 use convoy_outages::Outage;
 use convoy_plan_ceilings::{ceiling_placing_answer, plan_ceiling_answer};
 use convoy_plan_checker::plan_check_answer;
@@ -163,17 +164,29 @@ fn answer_search<R: Threads + Wait + Sync, W: PlanWatch + Sync>(
 {
     match what {
         SearchTask::Analyse => analyse_answer(rt, alloc, asked, text, options, &watches[0]),
-        SearchTask::Latency { with_ceiling } => {
-            latency_answer(rt, alloc, *with_ceiling, asked, text, options, &watches[0])
-        }
+        SearchTask::Latency {
+            with_ceiling,
+            outage,
+        } => answer_latency(
+            rt,
+            alloc,
+            *with_ceiling,
+            *outage,
+            asked,
+            options,
+            text,
+            &watches[0],
+        ),
         SearchTask::Survey {
             format,
             with_ceilings,
-        } => survey_answer(
+            outage,
+        } => answer_survey(
             rt,
             alloc,
             *format,
             *with_ceilings,
+            *outage,
             asked,
             options,
             text,
@@ -226,6 +239,74 @@ fn answer_search<R: Threads + Wait + Sync, W: PlanWatch + Sync>(
         SearchTask::Curve { setting, envelope } => {
             curve_told(rt, alloc, setting, *envelope, asked, options, text, watches)
         }
+    }
+}
+
+/// The greatest latency, and what none is above through outages where these are asked for.
+fn answer_latency<R: Threads + Wait + Sync, W: Watch + Sync>(
+    rt: &R,
+    alloc: Global,
+    with_ceiling: bool,
+    outage: Option<Outage>,
+    asked: &Asked,
+    options: &Options,
+    text: &[u8],
+    watch: &W,
+) -> Result<Answer, Fault>
+    ensures { SaysUnlessMemory (latency_by outage with_ceiling asked.now options.now) text.now (reply_of result) }
+{
+    match outage {
+        Some(outage) => latency_through_answer(
+            rt,
+            alloc,
+            with_ceiling,
+            outage,
+            asked,
+            text,
+            options,
+            watch,
+        ),
+        None => latency_answer(rt, alloc, with_ceiling, asked, text, options, watch),
+    }
+}
+
+/// The greatest latencies of all targets, likewise.
+fn answer_survey<R: Threads + Wait + Sync, W: Watch + Sync>(
+    rt: &R,
+    alloc: Global,
+    format: Format,
+    with_ceilings: bool,
+    outage: Option<Outage>,
+    asked: &Asked,
+    options: &Options,
+    text: &[u8],
+    watches: &[W],
+) -> Result<Answer, Fault>
+    requires { 0 < length watches.now }
+    ensures { SaysUnlessMemory (survey_by outage format with_ceilings asked.now options.now) text.now (reply_of result) }
+{
+    match outage {
+        Some(outage) => survey_through_answer(
+            rt,
+            alloc,
+            format,
+            with_ceilings,
+            outage,
+            asked,
+            options,
+            text,
+            watches,
+        ),
+        None => survey_answer(
+            rt,
+            alloc,
+            format,
+            with_ceilings,
+            asked,
+            options,
+            text,
+            watches,
+        ),
     }
 }
 

@@ -178,6 +178,7 @@ pub fn run_latency<R: Threads + Wait + Sync, S: Source, K: Sink>(
         options: *options,
         what: SearchTask::Latency {
             with_ceiling: false,
+            outage: None,
         },
     };
     let most_reads = options.most_reads();

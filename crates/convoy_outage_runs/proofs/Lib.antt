@@ -1,0 +1,15 @@
+pub mod Used
+pub mod Alike
+pub mod Told
+pub mod Slowed
+pub mod Squeezed
+pub mod ImageLinks
+pub mod Image
+pub mod ImageRun
+pub mod LateRuns
+pub mod WithinCeiling
+pub mod Ordinary
+pub mod Formed
+pub mod Limits
+pub mod Shortest
+pub mod Drafted
