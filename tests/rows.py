@@ -14,7 +14,7 @@ from support import need, want
 
 NUMBER = re.compile(r"\d+(\.\d+)?")
 # The columns of times, and those of all numbers of which a row for several groups has the greatest.
-TIMES = ("least_time", "most_time", "ceiling_time", "attained_time", "most_until_time", "left_time", "by_time", "unit")
+TIMES = ("least_time", "most_time", "outage_latency_time", "ceiling_time", "attained_time", "most_until_time", "left_time", "by_time", "unit")
 GREATEST = ("least", "most", "least_time", "most_time", "ceiling", "attained", "ceiling_time", "attained_time")
 # What a row that stands for several changes has nothing of.
 OF_ONE_CHANGE = ("message", "from", "to", "rival", "tied", "nodes")
