@@ -6,7 +6,7 @@ import random
 import sys
 
 import schedules
-from schedules import chance_home, chance_scenario, chance_target, delays_of_certificate, latency, ranks_of_certificate, small_scenarios
+from schedules import chance_home, chance_placed, chance_scenario, chance_target, delays_of_certificate, latency, ranks_of_certificate, small_scenarios
 from support import count, need, run, tell, want
 
 
@@ -46,7 +46,7 @@ def in_turn(further, scenarios, every):
 
 
 # The kinds of scenarios that have a word, and how they are made.
-KINDS = {"windows": chance_target, "home": chance_home}
+KINDS = {"windows": chance_target, "home": chance_home, "places": chance_placed}
 
 
 def kind_of(words):

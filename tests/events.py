@@ -11,7 +11,7 @@ import re
 import typing
 
 from lengths import in_unit, spelled
-from schedules import CLIENT, MESSAGE, PROPOSAL, WAIT
+from schedules import CLIENT, MESSAGE, PROPOSAL, WAIT, name_of
 
 ISSUE, ARRIVAL, COMMIT, DELIVERY = "issue", "arrival", "commit", "delivery"
 # What comes to a group at one instant, in the fixed order.
@@ -165,8 +165,8 @@ class Scale(typing.NamedTuple):
 
 
 def group_name(number):
-    """The name of a group; none of a client."""
-    return "" if number is CLIENT else f"g{number}"
+    """The name of a group, or of a place of clients; none of a client at none."""
+    return "" if number is CLIENT else name_of(number)
 
 
 def stamp_text(stamp):

@@ -4,6 +4,7 @@ The simulation is written from docs/PROTOCOL.md and shares nothing with the prog
 time a schedule has every order of its ties that may be.
 """
 
+import copy
 import itertools
 import math
 
@@ -14,14 +15,25 @@ WAIT, MESSAGE, PROPOSAL = "wait", "message", "proposal"
 
 
 class Scenario:
-    """How many groups there are, messages as (sender or CLIENT, destinations, first tick of issue), the target's number and
-    group, links as ranges by (sender or CLIENT, destination), whether its time is real, how many ticks each message may
-    wait for its issue, where none may if that is not told, and the groups whose links to themselves are for stamps, too."""
+    """How many groups there are, messages as (sender, destinations, first tick of issue), the target's number and group, links
+    as ranges by (sender, destination), whether its time is real, how many ticks each message may wait for its issue, where
+    none may if that is not told, the groups whose links to themselves are for stamps, too, and the places of clients. A
+    sender is the number of a group, CLIENT, or the name of a place."""
 
-    def __init__(self, delay, groups, messages, target, at, links, real=False, waits=None, stamps=()):
+    def __init__(self, delay, groups, messages, target, at, links, real=False, waits=None, stamps=(), places=()):
         self.delay, self.groups, self.messages = delay, groups, messages
         self.target, self.at, self.links, self.real = target, at, links, real
-        self.waits, self.stamps = waits or [0] * len(messages), stamps
+        self.waits, self.stamps, self.places = waits or [0] * len(messages), stamps, places
+
+    def with_parts(self, **parts):
+        """The scenario with other parts."""
+        other = copy.copy(self)
+        vars(other).update(parts)
+        return other
+
+    def senders(self):
+        """All that may send: clients at no place, those at each place, and groups."""
+        return [CLIENT, *self.places, *range(self.groups)]
 
     def packets(self):
         """Message by message: its wait, if it may wait, the message itself, and then the proposals, as (message, from, to, which)."""
@@ -59,7 +71,7 @@ class Scenario:
         lines += [f"tick = {tick}"] if tick else []
         lines += [f"delay = {told(self.delay)}"]
         lines += [f"least = {told(least)}"] if self.real else []
-        lines += [f"groups = {quoted(range(self.groups))}", ""]
+        lines += [f"groups = {quoted(range(self.groups))}", *[f"places = {quoted(self.places)}"] * bool(self.places), ""]
         tables = zip(itertools.count(), self.messages, self.issues())
         homes = [(group, group) for group in self.stamps]
         lines += itertools.chain.from_iterable(message_lines(*each, told) for each in tables)
@@ -69,27 +81,25 @@ class Scenario:
 
     def in_finer_ticks(self, times):
         """The scenario with each tick cut into so many: all ranges are written as links."""
-        places = [CLIENT, *range(self.groups)]
-        pairs = [(a, b) for a in places for b in range(self.groups) if a != b or (a, b) in self.links]
+        pairs = [(a, b) for a in self.senders() for b in range(self.groups) if a != b or (a, b) in self.links]
         ranges = {pair: self.links.get(pair, (1, self.delay)) for pair in pairs}
         links = {pair: (times * least, times * most) for pair, (least, most) in ranges.items()}
         messages = [(sender, to, times * at) for sender, to, at in self.messages]
         waits = [times * wait for wait in self.waits]
-        return Scenario(times * self.delay, self.groups, messages, self.target, self.at, links, self.real, waits, self.stamps)
+        return self.with_parts(delay=times * self.delay, messages=messages, links=links, waits=waits)
 
     def issued_after(self, waits):
         """The scenario in which each message has waited so long, and waits no longer."""
         messages = [(sender, to, at + wait) for (sender, to, at), wait in zip(self.messages, waits)]
-        return Scenario(self.delay, self.groups, messages, self.target, self.at, self.links, self.real, stamps=self.stamps)
+        return self.with_parts(messages=messages, waits=[0] * len(messages))
 
     def waiting(self, waits):
         """The scenario in which each message may wait so long."""
-        return Scenario(self.delay, self.groups, self.messages, self.target, self.at, self.links, self.real, waits, self.stamps)
+        return self.with_parts(waits=waits)
 
     def issued_later(self, ticks):
         """The scenario in which each message may be issued so many ticks later, and no sooner."""
-        messages = [(sender, to, at + ticks) for sender, to, at in self.messages]
-        return Scenario(self.delay, self.groups, messages, self.target, self.at, self.links, self.real, self.waits, self.stamps)
+        return self.with_parts(messages=[(sender, to, at + ticks) for sender, to, at in self.messages])
 
     def widened(self):
         """The scenario in which the target is issued at the end of its window, and each other message may wait as much longer as
@@ -97,17 +107,27 @@ class Scenario:
         longer = self.waits[self.target]
         messages = [(sender, to, at + longer * (number == self.target)) for number, (sender, to, at) in enumerate(self.messages)]
         waits = [0 if number == self.target else wait + longer for number, wait in enumerate(self.waits)]
-        return Scenario(self.delay, self.groups, messages, self.target, self.at, self.links, self.real, waits, self.stamps)
+        return self.with_parts(messages=messages, waits=waits)
 
 
-def quoted(groups):
-    """The names of groups, as an array."""
-    return "[" + ", ".join(f'"g{number}"' for number in groups) + "]"
+def is_group(sender):
+    """Whether a sender is a group, and not a client."""
+    return isinstance(sender, int)
+
+
+def name_of(sender):
+    """The name of a group, or of a place of clients, or the word for a client at none."""
+    return f"g{sender}" if is_group(sender) else sender or "client"
+
+
+def quoted(senders):
+    """The names of groups or places, as an array."""
+    return "[" + ", ".join(f'"{name_of(sender)}"' for sender in senders) + "]"
 
 
 def sender_lines(sender):
-    """The key of a sender, which clients have none of."""
-    return [] if sender is CLIENT else [f'from = "g{sender}"']
+    """The key of a sender, which clients at no place have none of."""
+    return [] if sender is CLIENT else [f'from = "{name_of(sender)}"']
 
 
 def message_lines(number, message, issue, told):
@@ -128,8 +148,8 @@ def of_certificate(text):
     """The scenario in a certificate's text, which has to be one."""
     rows = [line.split(" ") for line in text.split("\n")]
     of_word = lambda word: [row[1:] for row in rows if row[0] == word]
-    (delay,), names = of_word("delay")[0], of_word("groups")[0]
-    place = lambda name: CLIENT if name == "client" else names.index(name)
+    (delay,), names, places = of_word("delay")[0], of_word("groups")[0], sum(of_word("places"), [])
+    place = lambda name: CLIENT if name == "client" else name if name in places else names.index(name)
     windows = [window_of(issue) for _, _, issue, *_ in of_word("multicast")]
     messages = [(place(sender), [place(name) for name in to], at) for (_, sender, _, *to), (at, _) in zip(of_word("multicast"), windows)]
     target, group = of_word("target")[0]
@@ -137,7 +157,7 @@ def of_certificate(text):
     links = {(place(sender), place(to)): (int(least), int(most)) for sender, to, least, most, *_ in of_word("link")}
     waits = [last - first for first, last in windows]
     stamps = {place(to) for _, to, _, _, *stamps in of_word("link") if stamps}
-    return Scenario(int(delay), len(names), messages, number, place(group), links, ["real"] in of_word("time"), waits, stamps)
+    return Scenario(int(delay), len(names), messages, number, place(group), links, ["real"] in of_word("time"), waits, stamps, places)
 
 
 def window_of(issue):
@@ -254,6 +274,27 @@ def chance_target(chance, real):
     scenario = chance_scenario(chance, real)
     wait, is_alone = chance.randint(1, 4), chance.random() < 0.5
     return scenario.waiting([0 if is_alone and number != scenario.target else wait for number in range(len(scenario.messages))])
+
+
+def with_places(chance, scenario):
+    """The scenario with one to three places of clients, from which most of what clients sent comes, and from which links lead to
+    most groups."""
+    places = [f"p{number}" for number in range(chance.choice([1, 1, 2, 3]))]
+    messages = [(sender if is_group(sender) else chance.choice([CLIENT, *places, *places]), *rest) for sender, *rest in scenario.messages]
+    ways = [(place, group) for place in places for group in range(scenario.groups) if chance.random() < 0.7]
+    ranges = [sorted((chance.randint(1, scenario.delay), chance.randint(1, scenario.delay))) for _ in ways]
+    return scenario.with_parts(messages=messages, links=scenario.links | dict(zip(ways, ranges)), places=places)
+
+
+def maybe_with_places(chance, scenario):
+    """The scenario, a quarter of the time with places of clients."""
+    return with_places(chance, scenario) if chance.random() < 0.25 else scenario
+
+
+def chance_placed(chance, real):
+    """A scenario with places of clients, and else as `chance_scenario`, `chance_target` or `chance_home` makes it."""
+    made = chance.choice([chance_scenario, chance_target, chance_home])
+    return with_places(chance, made(chance, real))
 
 
 def small_scenarios(chance, most=MOST_SCHEDULES, real=False, made=chance_scenario):

@@ -32,7 +32,7 @@ class Answer(typing.NamedTuple):
 
 
 def example_scenarios():
-    """The texts of examples/ that are scenarios; others are plans, and kinds of messages."""
+    """The texts of examples/ that are scenarios; others are plans, kinds of messages, and workflows."""
     return sorted(path for path in (ROOT / "examples").glob("*.toml") if path.suffixes == [".toml"])
 
 

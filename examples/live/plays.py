@@ -55,10 +55,12 @@ class Range(typing.NamedTuple):
 
 
 class Scenario(typing.NamedTuple):
-    """A scenario and its answer: of each message the sender, the groups and the first time of issue; the target's message and
-    group; the greatest latency; and the range of each packet, and of each message that may wait."""
+    """A scenario and its answer: its groups and its places of clients; of each message the sender, the groups and the first time
+    of issue; the target's message and group; the greatest latency; and the range of each packet, and of each message that
+    may wait."""
 
     groups: list[str]
+    places: list[str]
     senders: dict[str, str]
     to: dict[str, list[str]]
     first: dict[str, int]
@@ -99,6 +101,7 @@ def read(path: pathlib.Path) -> Scenario:
     tick, messages = tick_of(rows), rows["multicast"]
     return Scenario(
         groups=rows["groups"][0],
+        places=rows.get("places", [[]])[0],
         senders={name: sender for name, sender, *_ in messages},
         to={name: to for name, _, _, *to in messages},
         first={name: tick * int(issue.split("..")[0]) for name, _, issue, *_ in messages},
@@ -159,7 +162,7 @@ def wider(scenario: Scenario, margin: int) -> str:
     in time, or is longer on its way."""
     message, group = scenario.target
     tables = [
-        ("", {"time": "real", "groups": scenario.groups}),
+        ("", {"time": "real", "groups": scenario.groups} | ({"places": scenario.places} if scenario.places else {})),
         *(("\n[[link]]\n", link) for link in wider_links(scenario, margin)),
         *(("\n[[multicast]]\n", each) for each in wider_messages(scenario, margin)),
         ("\n[target]\n", {"message": message, "group": group}),

@@ -22,7 +22,7 @@ TRIES = 10
 
 
 class System:
-    """The processes of a scenario, one for each group and one for its clients."""
+    """The processes of a scenario, one for each group, one for each place of clients, and one for its other clients."""
 
     def __init__(self, scenario: Scenario, processes: dict[str, asyncio.subprocess.Process]):
         self.scenario, self.processes = scenario, processes
@@ -87,7 +87,7 @@ async def running(scenario: Scenario) -> typing.AsyncIterator[System]:
     """The processes of a scenario, from their start to the end of the block. An interrupt does not reach them."""
     processes, how = {}, {"stdin": subprocess.PIPE, "stdout": subprocess.PIPE, "start_new_session": True}
     try:
-        for name in [*scenario.groups, CLIENT]:
+        for name in [*scenario.groups, *scenario.places, CLIENT]:
             processes[name] = await asyncio.create_subprocess_exec(sys.executable, HERE / "process", name, **how)
         system = System(scenario, processes)
         await system.connect()

@@ -5,7 +5,7 @@ use Rattle.convoy_streams.specs.Devices.{Answer, HasRun}
 use Rattle.convoy_streams.specs.Writes.{WritesAll, FailsWithin}
 use Rattle.convoy_scenario.specs.Scenario.{Scenario}
 use Rattle.convoy_commands.specs.declared.done.Done.{Done}
-use Rattle.convoy_commands.specs.declared.done.Done.TheVariants.{Fine, Open, Beyond, Faulty, Refused, PlanRefused, Differs, Departs, NotChecked}
+use Rattle.convoy_commands.specs.declared.done.Done.TheVariants.{Fine, Open, Beyond, Faulty, Refused, PlanRefused, WorkflowRefused, Differs, Departs, NotChecked}
 use Rattle.convoy_commands.specs.declared.fault.Fault.{Fault}
 use Rattle.convoy_commands.specs.declared.fault.Fault.TheVariants as faults
 use Rattle.convoy_commands.specs.Faults.{fault_line_of}
@@ -30,6 +30,7 @@ status_of_done Beyond = 5
 status_of_done Faulty = 1
 status_of_done (Refused refusal) = 4
 status_of_done PlanRefused = 4
+status_of_done WorkflowRefused = 4
 status_of_done (Differs part) = 4
 status_of_done Departs = 7
 status_of_done NotChecked = 6

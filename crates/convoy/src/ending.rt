@@ -41,7 +41,9 @@ fn status_of_done(done: Done) -> u8
         Done::Open => OPEN,
         Done::Beyond => BEYOND,
         Done::Faulty => FAULT,
-        Done::Refused(_) | Done::PlanRefused | Done::Differs(_) => REFUSED,
+        Done::Refused(_) | Done::PlanRefused | Done::WorkflowRefused | Done::Differs(_) => {
+            REFUSED
+        },
         Done::Departs => DEPARTS,
         Done::NotChecked => NOT_CHECKED,
     }

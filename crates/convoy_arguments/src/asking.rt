@@ -1,5 +1,5 @@
 //! What a command line asks beside a text: the target of a scenario, a deadline, and whether all is asked around the
-//! target; how long outages last; and the skew of the clocks of a trace.
+//! target; how long outages last; how far replicas are; and the skew of the clocks of a trace.
 
 use super::escaping::Escaped;
 use clap::ArgMatches;
@@ -49,6 +49,12 @@ const SKEW: (&str, &str) = (
 const OUTAGE: (&str, &str) = (
     "--outage <SPAN>",
     "write a duration above 0, as '5 s', or a number of ticks, from 1 on",
+);
+
+/// The same of `--accept`.
+const ACCEPT: (&str, &str) = (
+    "--accept <SPAN>",
+    "write a duration, as '3 ms', or a number of ticks",
 );
 
 /// The same of `--target`.
@@ -168,6 +174,20 @@ fn outage_by(time: WrittenTime) -> Outage {
     }
 }
 
+/// How far replicas are from the leaders of their groups, where it is asked what their answers cost.
+pub(crate) fn accept_of(
+    alloc: Global,
+    given: &ArgMatches<'_>,
+) -> Result<Option<WrittenTime>, Unasked> {
+    let Some(word) = given.get_str("accept") else {
+        return Ok(None);
+    };
+    match any_time_in(word) {
+        Some(time) => Ok(Some(time)),
+        None => Err(rejected(alloc, ACCEPT, word)),
+    }
+}
+
 /// The time above 0 that a word tells: a number of ticks, by digits alone, or a duration as scenario texts write it.
 fn time_in(word: &str) -> Option<WrittenTime> {
     if word.bytes().all(|byte| byte.is_ascii_digit()) {
@@ -187,6 +207,14 @@ fn count_in(digits: &str) -> Option<WrittenTime> {
         Ok(ticks) if ticks >= 1 => Some(WrittenTime::Count(ticks)),
         _ => None,
     }
+}
+
+/// The time that a word tells, likewise, which may be 0.
+fn any_time_in(word: &str) -> Option<WrittenTime> {
+    if word.bytes().all(|byte| byte.is_ascii_digit()) {
+        return word.parse::<i64>().ok().map(WrittenTime::Count);
+    }
+    Duration::read(word.as_bytes()).map(WrittenTime::Lasting)
 }
 
 /// How `--set` stands in a text for a person, and what can be written there.

@@ -1,4 +1,4 @@
-use super::asking::{Unasked, curve_of, outage_of, ranges_of, skew_of, sweep_of};
+use super::asking::{Unasked, accept_of, curve_of, outage_of, ranges_of, skew_of, sweep_of};
 use super::options::{
     first_of, format_of, is_image, options_of, simulations_of, steps_of, unit_of,
 };
@@ -284,6 +284,7 @@ fn latency_task_of(alloc: Global, given: &ArgMatches<'_>) -> Result<SearchTask, 
     Ok(SearchTask::Latency {
         with_ceiling: given.get_flag("ceiling"),
         outage: outage_of(alloc, given)?,
+        accept: accept_of(alloc, given)?,
     })
 }
 

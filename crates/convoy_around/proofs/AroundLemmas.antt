@@ -59,6 +59,7 @@ draft_around span plan t g = record {
   tick = plan.tick;
   delay = pos plan.delay;
   groups = plan.groups;
+  places = plan.places;
   links = map (draft_link plan) plan.links;
   messages = map (draft_message plan) (around_at span plan t 0).multicasts;
   target_message = (message_at plan t).name;
@@ -123,16 +124,16 @@ module _ (span : ℕ) (plan : Scenario) (t g : ℕ) (is : IsScenario plan) (shor
   in_limits true = let most = leb-true (3 * span) LONGEST_WAIT short in (omega (arith, most), omega arith)
   in_limits false = let most = leb-true (3 * span) LONGEST_WAIT short in (omega arith, most)
 
-  message_formed : (m : ℕ) → m < length plan.multicasts → IsMulticast (length plan.groups) (message_at made m)
+  message_formed : (m : ℕ) → m < length plan.multicasts → IsMulticast (length plan.groups) (length plan.places) (message_at made m)
   message_formed m l =
-      let old = All-get_or (IsMulticast (length plan.groups)) plan.multicasts m no_message l is.messages in
+      let old = All-get_or (IsMulticast (length plan.groups) (length plan.places)) plan.multicasts m no_message l is.messages in
       let limits = in_limits (m == t) in
-      subst (IsMulticast (length plan.groups)) (sym (message_is span plan t g m l))
+      subst (IsMulticast (length plan.groups) (length plan.places)) (sym (message_is span plan t g m l))
       (record { name = old.name; sender = old.sender; destinations = old.destinations; ascending = old.ascending; known = old.known; at = limits.0; wait = limits.1 })
 
-  messages_formed : All (IsMulticast (length plan.groups)) made.multicasts
+  messages_formed : All (IsMulticast (length plan.groups) (length plan.places)) made.multicasts
   messages_formed =
-      All-from_get_or (IsMulticast (length plan.groups)) made.multicasts no_message
+      All-from_get_or (IsMulticast (length plan.groups) (length plan.places)) made.multicasts no_message
       (λ i l. message_formed i (omega (arith, many span plan t g, l)))
 
   room : HasRoom made
@@ -156,10 +157,14 @@ module _ (span : ℕ) (plan : Scenario) (t g : ℕ) (is : IsScenario plan) (shor
     tick = is.tick;
     groups_low = is.groups_low;
     groups_high = is.groups_high;
+    places_high = is.places_high;
     multicasts_low = subst (λ n. 1 ≤ n) (sym (many span plan t g)) is.multicasts_low;
     multicasts_high = subst (λ n. n ≤ MOST_MULTICASTS) (sym (many span plan t g)) is.multicasts_high;
     group_names = is.group_names;
     group_names_differ = is.group_names_differ;
+    place_names = is.place_names;
+    place_names_differ = is.place_names_differ;
+    places_apart = is.places_apart;
     message_names_differ = names_differ span t 0 plan.multicasts is.message_names_differ;
     links = is.links;
     ascending = is.ascending;

@@ -9,7 +9,7 @@ ghost use Rattle.convoy_scenario.specs.WellFormed.{IsScenario};
 
 use super::around_laws::around_is_scenario;
 use convoy_scenario::naming::{
-    draft_destinations, draft_group, draft_groups, draft_link, draft_sender,
+    draft_destinations, draft_group, draft_groups, draft_link, draft_places, draft_sender,
 };
 use convoy_scenario::scenario_laws::scenarios_have_drafts;
 use convoy_scenario::{
@@ -82,6 +82,7 @@ fn draft_around(
         tick: scenario.tick(),
         delay: i64::from(scenario.delay()),
         groups: draft_groups(alloc, scenario)?,
+        places: draft_places(alloc, scenario)?,
         links: links_of(alloc, scenario)?,
         multicasts: messages_around(alloc, scenario, span, message)?,
         target_message: Name::new(alloc, scenario.message_name(message))?,

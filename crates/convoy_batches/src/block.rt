@@ -103,6 +103,7 @@ fn end_of_answer(done: Done) -> Done
         Done::Faulty
         | Done::Refused(_)
         | Done::PlanRefused
+        | Done::WorkflowRefused
         | Done::Differs(_)
         | Done::Departs
         | Done::NotChecked => Done::Faulty,

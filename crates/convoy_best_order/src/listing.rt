@@ -6,7 +6,7 @@ ghost use Rattle.convoy_orders.specs.Relisted.{relisted};
 ghost use Rattle.convoy_best_order.specs.Orders.{IsOrder, listed, names_of};
 
 use convoy_orders::relisted_laws::relisted_drafts_give_scenarios;
-use convoy_scenario::naming::{draft_group, draft_link, draft_message};
+use convoy_scenario::naming::{draft_group, draft_link, draft_message, draft_places};
 use convoy_scenario::scenario_laws::scenarios_have_drafts;
 use convoy_scenario::{DraftLink, DraftMulticast, DraftScenario, Name, Scenario, ScenarioFault};
 use std::alloc::{AllocError, Global};
@@ -47,6 +47,7 @@ fn listed_draft(
         tick: scenario.tick(),
         delay: i64::from(scenario.delay()),
         groups: names_of(alloc, scenario, order)?,
+        places: draft_places(alloc, scenario)?,
         links: links_of(alloc, scenario)?,
         multicasts: messages_of(alloc, scenario)?,
         target_message: Name::new(alloc, scenario.message_name(target))?,

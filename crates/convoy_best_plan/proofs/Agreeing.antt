@@ -31,6 +31,7 @@ base_of w tick written messages bundles links = record {
   tick = tick;
   delay = delay_or_greatest written bundles;
   groups = w.groups;
+  places = w.places;
   links = links;
   messages = messages;
   target_message = w.target_message;
@@ -59,6 +60,7 @@ after_tick w tick = whole_if_written tick Delay w.delay >>= after_delay w tick
 -- the draft has these messages, and the rest as it is written
 pub record IsDraftOf (w : WrittenScenario) (messages : List DraftMessage) (draft : Draft) : Type 0 where
   pub groups : draft.groups ≡ w.groups
+  pub places : draft.places ≡ w.places
   pub has : draft.messages ≡ messages
   pub target_message : draft.target_message ≡ w.target_message
   pub target_group : draft.target_group ≡ w.target_group
@@ -69,7 +71,7 @@ keeps w base None is = is
 keeps w base (Some least) is = by_test (int_le least (pos 1)) (base.links ++ map (link_along least base.delay) (ways_without_link base)) where
   by_test : (b : Bool) (links : List DraftLink) → IsDraftOf w base.messages (cond b base (record base { links = links }))
   by_test true links = is
-  by_test false links = record { groups = is.groups; has = is.has; target_message = is.target_message; target_group = is.target_group }
+  by_test false links = record { groups = is.groups; places = is.places; has = is.has; target_message = is.target_message; target_group = is.target_group }
 
 -- the steps, the last first
 from_links : (w : WrittenScenario) (tick : Option ℕ) (written least : Option ℤ) (messages : List DraftMessage) (bundles : List Bundle) (links : List DraftLink) (draft : Draft)
@@ -79,7 +81,7 @@ from_links w tick written least messages bundles links draft made =
     after_ok (need_least w.time (delay_or_greatest written bundles) least) (λ _. Ok (with_least least (base_of w tick written messages bundles links))) draft made in
     subst (IsDraftOf w messages) {x = with_least least (base_of w tick written messages bundles links)}
     (same_ok (with_least least (base_of w tick written messages bundles links)) draft last.2)
-    (keeps w (base_of w tick written messages bundles links) least (record { groups = refl; has = refl; target_message = refl; target_group = refl }))
+    (keeps w (base_of w tick written messages bundles links) least (record { groups = refl; places = refl; has = refl; target_message = refl; target_group = refl }))
 
 from_bundles : (w : WrittenScenario) (tick : Option ℕ) (written least : Option ℤ) (messages : List DraftMessage) (bundles : List Bundle) (draft : Draft)
     → after_bundles w tick written least messages bundles ≡ Ok draft → IsDraftOf w messages draft
@@ -116,7 +118,7 @@ drafted w tick draft made =
 -- the scenario has these messages of the plan
 pub record IsMade (plan : Plan) (tick : Option ℕ) (scenario : Scenario) (messages : List DraftMessage) : Type 0 where
   pub is : draft_messages_of tick (map (message_in plan) plan.written.messages) ≡ Ok messages
-  pub multicasts : scenario.multicasts ≡ map (message_of (groups_in plan)) messages
+  pub multicasts : scenario.multicasts ≡ map (message_of (groups_in plan) []) messages
   pub target_message : scenario.target_message ≡ message_place plan.written.target_message messages
   pub target_group : scenario.target_group ≡ place plan.written.target_group (groups_in plan)
 
@@ -149,7 +151,9 @@ module _ (plan : Plan) (placement : List ℕ) (scenario : Scenario) (made : scen
         parts.0,
         record {
           is = parts.1;
-          multicasts = sym (ap (λ (s : Scenario). s.multicasts) is) ∙ ap₂ (λ (groups : List (List ℕ)) (ms : List DraftMessage). map (message_of groups) ms) parts.2.groups parts.2.has;
+          multicasts = sym (ap (λ (s : Scenario). s.multicasts) is)
+              ∙ ap (λ (ms : List DraftMessage). map (message_of of_draft.0.groups of_draft.0.places) ms) parts.2.has
+              ∙ ap₂ (λ (groups places : List (List ℕ)). map (message_of groups places) parts.0) parts.2.groups parts.2.places;
           target_message = sym (ap (λ (s : Scenario). s.target_message) is) ∙ ap₂ message_place parts.2.target_message parts.2.has;
           target_group = sym (ap (λ (s : Scenario). s.target_group) is) ∙ ap₂ place parts.2.target_group parts.2.groups;
         },
@@ -173,7 +177,7 @@ agree plan first second scenario other is_plan made other_made =
     let same : there.0 ≡ here.0 =
     same_ok there.0 here.0 (sym there.1.is ∙ ap (λ (t : Option ℕ). draft_messages_of t (map (message_in plan) plan.written.messages)) ticks ∙ here.1.is) in
     record {
-      multicasts = there.1.multicasts ∙ ap (map (message_of (groups_in plan))) same ∙ sym here.1.multicasts;
+      multicasts = there.1.multicasts ∙ ap (map (message_of (groups_in plan) [])) same ∙ sym here.1.multicasts;
       target_message = there.1.target_message ∙ ap (message_place plan.written.target_message) same ∙ sym here.1.target_message;
       target_group = there.1.target_group ∙ sym here.1.target_group;
     }
@@ -197,5 +201,5 @@ pub message_count : (plan : Plan) (placement : List ℕ) (scenario : Scenario) �
     → length scenario.multicasts ≡ length plan.written.messages
 message_count plan placement scenario made =
     let here = is_made plan placement scenario made in
-    ap length here.1.multicasts ∙ length-map here.0 (message_of (groups_in plan)) ∙ as_many (of_tick plan placement scenario made).0 (map (message_in plan) plan.written.messages) here.0 here.1.is
+    ap length here.1.multicasts ∙ length-map here.0 (message_of (groups_in plan) []) ∙ as_many (of_tick plan placement scenario made).0 (map (message_in plan) plan.written.messages) here.0 here.1.is
     ∙ length-map plan.written.messages (message_in plan)

@@ -29,6 +29,7 @@ ranged_draft scenario way range = record {
   tick = (draft_for scenario).tick;
   delay = pos (max scenario.delay range.1);
   groups = (draft_for scenario).groups;
+  places = (draft_for scenario).places;
   links = map (link_on scenario way range) (all_ways scenario);
   messages = (draft_for scenario).messages;
   target_message = (draft_for scenario).target_message;

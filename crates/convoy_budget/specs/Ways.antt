@@ -1,5 +1,5 @@
 -- The ways of a scenario on which packets travel.
-use Rattle.std.specs.Prelude.{ℕ, ◌==◌, Bool, ◌&&◌, not, if◌then◌else◌, List, [], ◌∷◌, ◌++◌, filter, length}
+use Rattle.std.specs.Prelude.{ℕ, ◌+◌, ◌==◌, Bool, ◌&&◌, not, if◌then◌else◌, List, [], ◌∷◌, ◌++◌, filter, length}
 use Rattle.std.specs.List.{flat_map, list_any, range_with_len}
 use Rattle.convoy_scenario.specs.declared.sender.Sender.{Sender}
 use Rattle.convoy_scenario.specs.declared.sender.Sender.TheVariants.{Client, Group}
@@ -13,6 +13,10 @@ use Rattle.convoy_budget.specs.declared.kinds.Way.{Way}
 abbrev pub group_numbers : Scenario → List ℕ
 group_numbers scenario = range_with_len 0 (length scenario.groups)
 
+-- the places at which clients are: that which has no name, and those that have one
+abbrev pub client_places : Scenario → List ℕ
+client_places scenario = range_with_len 0 (length scenario.places + 1)
+
 -- the way from the sender to the group, if it takes time
 abbrev pub way_to : Scenario → Sender → ℕ → List Way
 way_to scenario sender to = if takes_time scenario sender to then record { sender = sender; to = to } ∷ [] else []
@@ -21,9 +25,10 @@ way_to scenario sender to = if takes_time scenario sender to then record { sende
 abbrev pub ways_from : Scenario → Sender → List Way
 ways_from scenario sender = flat_map (way_to scenario sender) (group_numbers scenario)
 
--- all ways, those of clients first, and then by the group that sends
+-- all ways, those of clients first, by their places, and then by the group that sends
 abbrev pub all_ways : Scenario → List Way
-all_ways scenario = ways_from scenario Client ++ flat_map (λ g. ways_from scenario (Group g)) (group_numbers scenario)
+all_ways scenario =
+    flat_map (λ p. ways_from scenario (Client p)) (client_places scenario) ++ flat_map (λ g. ways_from scenario (Group g)) (group_numbers scenario)
 
 -- the packet travels on the way
 abbrev pub goes_on : Scenario → Way → Packet → Bool

@@ -8,7 +8,9 @@ ghost use Rattle.convoy_budget.specs.Ways.{all_ways};
 
 use super::kinds::{Side, Way, Widening};
 use super::ways::{all_ways, is_same_way};
-use convoy_scenario::naming::{draft_group, draft_groups, draft_message, draft_sender};
+use convoy_scenario::naming::{
+    draft_group, draft_groups, draft_message, draft_places, draft_sender,
+};
 use convoy_scenario::{DraftLink, DraftMulticast, DraftScenario, Name, Scenario, ScenarioFault};
 use std::alloc::{AllocError, Global};
 
@@ -84,6 +86,7 @@ fn ranged_draft(
         tick: scenario.tick(),
         delay: i64::from(u32::from(scenario.delay()).max(range.1)),
         groups: draft_groups(alloc, scenario)?,
+        places: draft_places(alloc, scenario)?,
         links: links_of(alloc, scenario, way, range)?,
         multicasts: messages_of(alloc, scenario)?,
         target_message: Name::new(alloc, scenario.message_name(target))?,

@@ -1,8 +1,8 @@
-ghost use Rattle.std.specs.Prelude.{◌≡◌, ◌++◌, ◌&&◌, ◌==◌, IfOk, OnOk};
+ghost use Rattle.std.specs.Prelude.{◌≡◌, ◌+◌, ◌++◌, ◌&&◌, ◌==◌, IfOk, OnOk, length};
 ghost use Rattle.std.specs.List.{flat_map, list_any};
-ghost use Rattle.convoy_scenario.specs.declared.sender.Sender.TheVariants.{Group};
+ghost use Rattle.convoy_scenario.specs.declared.sender.Sender.TheVariants.{Client, Group};
 ghost use Rattle.convoy_packets.specs.Packets.{packets_of};
-ghost use Rattle.convoy_budget.specs.Ways.{all_ways, goes_on, group_numbers, is_same_way, is_travelled, way_to, ways_from, ways_of};
+ghost use Rattle.convoy_budget.specs.Ways.{all_ways, client_places, goes_on, group_numbers, is_same_way, is_travelled, way_to, ways_from, ways_of};
 
 use super::kinds::Way;
 use convoy_packets::{Instance, Packet};
@@ -10,8 +10,8 @@ use convoy_scenario::lookup::sender_of;
 use convoy_scenario::{Scenario, Sender, is_same_sender};
 use std::alloc::{AllocError, Global};
 
-/// The ways on which packets of an instance's scenario travel: those of clients first, and then by the group that sends,
-/// and each time by the group that they lead to. Fails where memory runs out, and else never.
+/// The ways on which packets of an instance's scenario travel: those of clients first, by their places, and then by the
+/// group that sends, and each time by the group that they lead to. Fails where memory runs out, and else never.
 pub fn ways_of(alloc: Global, instance: &Instance) -> Result<Vec<Way>, AllocError>
     ensures { IfOk result (λ ways. ways.items ≡ ways_of instance.now) }
 {
@@ -30,9 +30,27 @@ pub(crate) fn all_ways(alloc: Global, scenario: &Scenario) -> Result<Vec<Way>, A
     ensures { IfOk result (λ ways. ways.items ≡ all_ways scenario.now) }
 {
     let mut ways = Vec::new(alloc);
-    push_ways(scenario, Sender::Client, &mut ways)?;
+    push_clients(scenario, &mut ways)?;
     push_groups(scenario, &mut ways)?;
     Ok(ways)
+}
+
+/// Appends the ways from clients: at no named place, and at each of the places.
+fn push_clients(scenario: &Scenario, ways: &mut Vec<Way>) -> Result<(), AllocError>
+    ensures { OnOk result (ways.new.items
+        ≡ ways.old.items ++ flat_map (λ p. ways_from scenario.now (Client p)) (client_places scenario.now)) }
+{
+    for place in 0..client_count(scenario) {
+        push_ways(scenario, Sender::Client(place), ways)?;
+    }
+    Ok(())
+}
+
+/// At how many places clients are, that which has no name among them.
+fn client_count(scenario: &Scenario) -> usize
+    ensures { result ≡ length scenario.now.places + 1 }
+{
+    scenario.place_count() + 1
 }
 
 /// Appends the ways from all groups.

@@ -22,7 +22,7 @@ module _ (scenario : Scenario) (well : IsScenario scenario) where
     by_link None e = (omega arith, omega arith)
     by_link (Some link) e =
         let there = in_of_find (λ other. is_same_sender sender other.sender && (to == other.to)) link scenario.links e in
-        let is = all-in (IsLink (length scenario.groups) scenario.delay) link scenario.links well.links there.0 in
+        let is = all-in (IsLink (length scenario.groups) (length scenario.places) scenario.delay) link scenario.links well.links there.0 in
         (is.low, is.high)
 
   delay_most : (sender : Sender) (to : ℕ) → (delays_between scenario sender to).1 ≤ scenario.delay

@@ -32,7 +32,7 @@ link : Sender → ℕ → ℕ → ℕ → Link
 link sender to least most = record { sender = sender; to = to; least = least; most = most; stamps = false }
 
 -- with links from the clients to b and from b to a: t takes 4 ticks, and y 5
-linked : ceiling_of (record base { links = link Client 1 1 2 ∷ link (Group 1) 0 2 2 ∷ [] }) ≡ 9
+linked : ceiling_of (record base { links = link (Client 0) 1 1 2 ∷ link (Group 1) 0 2 2 ∷ [] }) ≡ 9
 unfolding base_with message link ceiling_at ceiling_of
 linked = refl
 
@@ -40,7 +40,7 @@ with_messages : List Message → Scenario
 with_messages messages = record base { multicasts = messages; target_message = 0 }
 
 -- a lone message of a client to one group: D, and D less a tick
-lone : ceiling_of (with_messages (message (codes "m") Client (0 ∷ []) 0 ∷ [])) ≡ 5
+lone : ceiling_of (with_messages (message (codes "m") (Client 0) (0 ∷ []) 0 ∷ [])) ≡ 5
 unfolding with_messages base_with message ceiling_at ceiling_of
 lone = refl
 
@@ -62,15 +62,15 @@ by_link_for_stamps = refl
 -- traffic of the base scenario's kinds: a message of the kind of t at tick 5, three of that of y at tick 3, and one of that of t at tick 0
 unfoldable busy : Scenario
 busy = record base {
-  multicasts = message (codes "t") Client (0 ∷ 1 ∷ []) 5
+  multicasts = message (codes "t") (Client 0) (0 ∷ 1 ∷ []) 5
       ∷ message (codes "y") (Group 0) (0 ∷ 1 ∷ []) 3 ∷ message (codes "y") (Group 0) (0 ∷ 1 ∷ []) 3 ∷ message (codes "y") (Group 0) (0 ∷ 1 ∷ []) 3
-      ∷ message (codes "t") Client (0 ∷ 1 ∷ []) 0 ∷ [];
+      ∷ message (codes "t") (Client 0) (0 ∷ 1 ∷ []) 0 ∷ [];
 }
 
 busy_is_traffic : IsTrafficOf base busy
 unfolding busy base_with message
 busy_is_traffic = record { groups = refl; delay = refl; links = refl; kinds = kinds } where
-  of_t : (name : List ℕ) (at : ℕ) → IsOfSomeKind base (message name Client (0 ∷ 1 ∷ []) at)
+  of_t : (name : List ℕ) (at : ℕ) → IsOfSomeKind base (message name (Client 0) (0 ∷ 1 ∷ []) at)
   of_t name at = (1, omega arith, record { sender = refl; destinations = refl })
 
   of_y : (name : List ℕ) (at : ℕ) → IsOfSomeKind base (message name (Group 0) (0 ∷ 1 ∷ []) at)
@@ -92,16 +92,16 @@ reached_at_b = refl
 -- traffic with a wait: the first message of the kind of t may be issued from tick 0 to 5
 unfoldable waiting : Scenario
 waiting = record base {
-  multicasts = record { name = codes "t"; sender = Client; destinations = 0 ∷ 1 ∷ []; at = 0; longest_wait = 5 }
+  multicasts = record { name = codes "t"; sender = Client 0; destinations = 0 ∷ 1 ∷ []; at = 0; longest_wait = 5 }
       ∷ message (codes "y") (Group 0) (0 ∷ 1 ∷ []) 3 ∷ message (codes "y") (Group 0) (0 ∷ 1 ∷ []) 3 ∷ message (codes "y") (Group 0) (0 ∷ 1 ∷ []) 3
-      ∷ message (codes "t") Client (0 ∷ 1 ∷ []) 0 ∷ [];
+      ∷ message (codes "t") (Client 0) (0 ∷ 1 ∷ []) 0 ∷ [];
 }
 
 waiting_is_traffic : IsTrafficOf base waiting
 unfolding waiting base_with message
 waiting_is_traffic = record { groups = refl; delay = refl; links = refl; kinds = kinds } where
   of_t : (name : List ℕ) (at longest_wait : ℕ)
-      → IsOfSomeKind base (record { name = name; sender = Client; destinations = 0 ∷ 1 ∷ []; at = at; longest_wait = longest_wait })
+      → IsOfSomeKind base (record { name = name; sender = Client 0; destinations = 0 ∷ 1 ∷ []; at = at; longest_wait = longest_wait })
   of_t name at longest_wait = (1, omega arith, record { sender = refl; destinations = refl })
 
   of_y : (name : List ℕ) (at : ℕ) → IsOfSomeKind base (message name (Group 0) (0 ∷ 1 ∷ []) at)

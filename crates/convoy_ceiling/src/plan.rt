@@ -6,7 +6,7 @@ use super::ticks::IssueTicks;
 use convoy_packets::schedule_laws::fixed_order_is_order;
 use convoy_packets::{Instance, Packet, Schedule};
 use convoy_scenario::naming::{
-    draft_destinations, draft_group, draft_groups, draft_link, draft_sender,
+    draft_destinations, draft_group, draft_groups, draft_link, draft_places, draft_sender,
 };
 use convoy_scenario::{DraftLink, DraftMulticast, DraftScenario, Name, Scenario};
 use std::alloc::{AllocError, Global};
@@ -56,6 +56,7 @@ impl Plan {
             tick: scenario.tick(),
             delay: i64::from(scenario.delay()),
             groups: draft_groups(alloc, scenario)?,
+            places: draft_places(alloc, scenario)?,
             links: links_of(alloc, scenario)?,
             multicasts: self.messages(alloc, scenario)?,
             target_message: Name::new(alloc, scenario.message_name(target))?,

@@ -1,5 +1,5 @@
 -- How many bytes the lines of a certificate have at most, and its text.
-use Rattle.std.proofs.Common.{◌≡◌, ℕ, zero, suc, ◌+◌, ◌*◌, ◌<◌, ◌≤◌, ◌^◌, nat_le, ◌==◌, Bool, true, false, cond, ◌&&◌, not, Option, Some, None, List, [], ◌∷◌, ◌++◌, length, length-append, map, get_or, ap, ◌∙◌, arith, refl, codes, decimal}
+use Rattle.std.proofs.Common.{◌≡◌, ℕ, zero, suc, ◌+◌, ◌-◌, ◌*◌, ◌<◌, ◌≤◌, ◌^◌, nat_le, ◌==◌, Bool, true, false, cond, ◌&&◌, not, Option, Some, None, List, [], ◌∷◌, ◌++◌, length, length-append, map, get_or, ap, ◌∙◌, arith, refl, codes, decimal}
 use Rattle.std.specs.List.{AllByRecursion, flat_map, list_all}
 use Rattle.std.specs.Str.{bytes_eq}
 use Rattle.std.proofs.lemmas.Bool.{and_parts, false≢true, leb-true}
@@ -20,8 +20,8 @@ use Rattle.convoy_draft.specs.Durations.{count_of, unit_of, unit_word}
 use Rattle.convoy_scenario.specs.Naming.{sender_word}
 use Rattle.convoy_scenario_lines.specs.declared.version.Version.{Version as LinesVersion}
 use Rattle.convoy_scenario_lines.specs.declared.version.Version.TheVariants as lines
-use Rattle.convoy_scenario_lines.specs.ScenarioLines.{time_lines, issue_word, tick_line, tick_lines, delay_line, groups_line, link_line, stamps_words, multicast_line, target_line, lines_from_delay, scenario_lines}
-use Rattle.convoy_scenario.specs.Scenario.{Link, Message, Scenario, is_timed, message_at, group_name_at, no_message}
+use Rattle.convoy_scenario_lines.specs.ScenarioLines.{time_lines, issue_word, tick_line, tick_lines, delay_line, groups_line, places_line, places_lines, link_line, stamps_words, multicast_line, target_line, lines_from_delay, scenario_lines}
+use Rattle.convoy_scenario.specs.Scenario.{Link, Message, Scenario, is_timed, message_at, group_name_at, place_name_at, no_message}
 use Rattle.convoy_scenario.specs.WellFormed.{IsLink, IsMulticast, IsScenario}
 use Rattle.convoy_draft.specs.Names.{is_letter, is_name_byte, is_name, client_word, is_group_name}
 use Rattle.convoy_draft.specs.Limits.{is_tick}
@@ -129,11 +129,11 @@ name_length (c ∷ cs) good =
     let long = and_parts (is_letter c && list_all is_name_byte cs) (nat_le (length (c ∷ cs)) LONGEST_NAME) good in
     leb-true (length (c ∷ cs)) LONGEST_NAME long.1
 
-groups_short : (names : List (List ℕ)) → AllByRecursion (λ name. is_group_name name ≡ true) names → AreShort names
-groups_short [] good = tt
-groups_short (name ∷ names) good =
+names_short : (names : List (List ℕ)) → AllByRecursion (λ name. is_group_name name ≡ true) names → AreShort names
+names_short [] good = tt
+names_short (name ∷ names) good =
     let parts = and_parts (is_name name) (not (bytes_eq name client_word)) good.0 in
-    (name_length name parts.0, groups_short names good.1)
+    (name_length name parts.0, names_short names good.1)
 
 word_at : (words : List (List ℕ)) (i : ℕ) → AreShort words → length (get_or words i []) ≤ 16
 word_at [] i short = omega arith
@@ -144,14 +144,29 @@ names_at : (words : List (List ℕ)) (numbers : List ℕ) → AreShort words →
 names_at words [] short = tt
 names_at words (i ∷ numbers) short = (word_at words i short, names_at words numbers short)
 
-message_name_at : (groups : ℕ) (messages : List Message) (i : ℕ) → AllByRecursion (IsMulticast groups) messages → length (get_or messages i no_message).name ≤ 16
-message_name_at groups [] i are = omega arith
-message_name_at groups (message ∷ messages) zero are = name_length message.name are.0.name
-message_name_at groups (message ∷ messages) (suc i) are = message_name_at groups messages i are.1
+message_name_at : (groups places : ℕ) (messages : List Message) (i : ℕ) → AllByRecursion (IsMulticast groups places) messages → length (get_or messages i no_message).name ≤ 16
+message_name_at groups places [] i are = omega arith
+message_name_at groups places (message ∷ messages) zero are = name_length message.name are.0.name
+message_name_at groups places (message ∷ messages) (suc i) are = message_name_at groups places messages i are.1
 
-sender_length : (plan : Scenario) (sender : Sender) → AreShort plan.groups → length (sender_word plan sender) ≤ 16
-sender_length plan Client short = omega arith
-sender_length plan (Group g) short = word_at plan.groups g short
+-- the names of groups and of places
+record HasShortNames (plan : Scenario) : Type 0 where
+  groups : AreShort plan.groups
+  places : AreShort plan.places
+
+short_names : (plan : Scenario) → IsScenario plan → HasShortNames plan
+short_names plan is = record {
+  groups = names_short plan.groups (recursion_from_All (λ name. is_group_name name ≡ true) plan.groups is.group_names);
+  places = names_short plan.places (recursion_from_All (λ name. is_group_name name ≡ true) plan.places is.place_names);
+}
+
+sender_length : (plan : Scenario) (sender : Sender) → HasShortNames plan → length (sender_word plan sender) ≤ 16
+sender_length plan (Client p) short =
+    elim (p == 0) as (λ b. length (cond b client_word (place_name_at plan p)) ≤ 16) [
+      | true ↦ omega arith
+      | false ↦ word_at plan.places (p - 1) short.places
+    ]
+sender_length plan (Group g) short = word_at plan.groups g short.groups
 
 -- two ticks of at most seven digits each, and two dots
 issue_length : (at wait : ℕ) → at ≤ GREATEST_AT → wait ≤ LONGEST_WAIT → length (issue_word at wait) ≤ 16
@@ -164,17 +179,17 @@ issue_length at wait low short =
       | false ↦ omega arith
     ]
 
-multicast_length : (plan : Scenario) (message : Message) → length plan.groups ≤ MOST_GROUPS → AreShort plan.groups → IsMulticast (length plan.groups) message → length (multicast_line plan message) ≤ 300
+multicast_length : (plan : Scenario) (message : Message) → length plan.groups ≤ MOST_GROUPS → HasShortNames plan → IsMulticast (length plan.groups) (length plan.places) message → length (multicast_line plan message) ≤ 300
 multicast_length plan message few short is =
     let names : List (List ℕ) = map (group_name_at plan) message.destinations in
     let issue = issue_length message.at message.longest_wait is.at is.wait in
     let words : List (List ℕ) = message.name ∷ sender_word plan message.sender ∷ issue_word message.at message.longest_wait ∷ names in
-    let line = line_length (codes "multicast") words (name_length message.name is.name, (sender_length plan message.sender short, (issue, names_at plan.groups message.destinations short))) in
+    let line = line_length (codes "multicast") words (name_length message.name is.name, (sender_length plan message.sender short, (issue, names_at plan.groups message.destinations short.groups))) in
     let count = length-map message.destinations (group_name_at plan) in
     let known = length-increasing-le message.destinations (length plan.groups) is.ascending is.known in
     omega arith
 
-multicasts_short : (plan : Scenario) (messages : List Message) → length plan.groups ≤ MOST_GROUPS → AreShort plan.groups → AllByRecursion (IsMulticast (length plan.groups)) messages
+multicasts_short : (plan : Scenario) (messages : List Message) → length plan.groups ≤ MOST_GROUPS → HasShortNames plan → AllByRecursion (IsMulticast (length plan.groups) (length plan.places)) messages
     → AreShortLines (map (multicast_line plan) messages)
 multicasts_short plan [] few short are = tt
 multicasts_short plan (message ∷ messages) few short are =
@@ -190,16 +205,16 @@ stamps_few : (stamps : Bool) → length (stamps_words stamps) ≤ 1
 stamps_few true = omega arith
 stamps_few false = omega arith
 
-link_length : (plan : Scenario) (link : Link) → IsScenario plan → AreShort plan.groups → IsLink (length plan.groups) plan.delay link → length (link_line plan link) ≤ 300
+link_length : (plan : Scenario) (link : Link) → IsScenario plan → HasShortNames plan → IsLink (length plan.groups) (length plan.places) plan.delay link → length (link_line plan link) ≤ 300
 link_length plan link is short known =
     let low = number_length link.least (omega (arith, known.ordered, known.high, is.delay_high)) in
     let high = number_length link.most (omega (arith, known.high, is.delay_high)) in
     let words : List (List ℕ) = sender_word plan link.sender ∷ group_name_at plan link.to ∷ decimal link.least ∷ decimal link.most ∷ stamps_words link.stamps in
     let last = stamps_few link.stamps in
-    let line = line_length (codes "link") words (sender_length plan link.sender short, (word_at plan.groups link.to short, (low, (high, stamps_short link.stamps)))) in
+    let line = line_length (codes "link") words (sender_length plan link.sender short, (word_at plan.groups link.to short.groups, (low, (high, stamps_short link.stamps)))) in
     omega arith
 
-links_short : (plan : Scenario) (links : List Link) → IsScenario plan → AreShort plan.groups → AllByRecursion (IsLink (length plan.groups) plan.delay) links → AreShortLines (map (link_line plan) links)
+links_short : (plan : Scenario) (links : List Link) → IsScenario plan → HasShortNames plan → AllByRecursion (IsLink (length plan.groups) (length plan.places) plan.delay) links → AreShortLines (map (link_line plan) links)
 links_short plan [] is short are = tt
 links_short plan (link ∷ links) is short are = (link_length plan link is short are.0, links_short plan links is short are.1)
 
@@ -207,28 +222,48 @@ lines_append : (xs ys : List (List ℕ)) → AreShortLines xs → AreShortLines 
 lines_append [] ys a b = b
 lines_append (x ∷ xs) ys a b = (a.0, lines_append xs ys a.1 b)
 
--- from the line `delay` on the text of a scenario has at most 91 lines of at most 301 bytes, their ends among them
-length_from_delay : (plan : Scenario) → IsScenario plan → length (text_of (lines_from_delay plan)) ≤ 27_391
+-- there is one line of places at most
+places_short : (plan : Scenario) → IsScenario plan → AreShort plan.places → AreShortLines (places_lines plan.places)
+places_short plan is short =
+    let few = is.places_high in
+    let line = line_length (codes "places") plan.places short in
+    elim (length plan.places == 0) as (λ b. AreShortLines (cond b [] (places_line plan.places ∷ []))) [
+      | true ↦ tt
+      | false ↦ (omega arith, tt)
+    ]
+
+places_few : (places : List (List ℕ)) → length (places_lines places) ≤ 1
+places_few places =
+    elim (length places == 0) as (λ b. length (cond b [] (places_line places ∷ [])) ≤ 1) [
+      | true ↦ omega arith
+      | false ↦ omega arith
+    ]
+
+-- from the line `delay` on the text of a scenario has at most 156 lines of at most 301 bytes, their ends among them
+length_from_delay : (plan : Scenario) → IsScenario plan → length (text_of (lines_from_delay plan)) ≤ 46_956
 length_from_delay plan is =
     let delay_within = is.delay_high in
     let groups_within = is.groups_high in
     let multicasts_within = is.multicasts_high in
-    let short = groups_short plan.groups (recursion_from_All (λ name. is_group_name name ≡ true) plan.groups is.group_names) in
-    let messages = recursion_from_All (IsMulticast (length plan.groups)) plan.multicasts is.messages in
+    let short = short_names plan is in
+    let messages = recursion_from_All (IsMulticast (length plan.groups) (length plan.places)) plan.multicasts is.messages in
     let number = number_length plan.delay (omega arith) in
     let delay = line_length (codes "delay") (decimal plan.delay ∷ []) (number, tt) in
-    let groups = line_length (codes "groups") plan.groups short in
-    let name = message_name_at (length plan.groups) plan.multicasts plan.target_message messages in
-    let target = line_length (codes "target") ((message_at plan plan.target_message).name ∷ group_name_at plan plan.target_group ∷ []) (name, (word_at plan.groups plan.target_group short, tt)) in
+    let groups = line_length (codes "groups") plan.groups short.groups in
+    let name = message_name_at (length plan.groups) (length plan.places) plan.multicasts plan.target_message messages in
+    let target = line_length (codes "target") ((message_at plan plan.target_message).name ∷ group_name_at plan plan.target_group ∷ []) (name, (word_at plan.groups plan.target_group short.groups, tt)) in
     let multicasts = multicasts_short plan plan.multicasts groups_within short messages in
     let delay_short : length (delay_line plan) ≤ 300 = omega arith in
     let groups_short : length (groups_line plan) ≤ 300 = omega arith in
     let target_short : length (target_line plan) ≤ 300 = omega arith in
     let messages_and_target = lines_append (map (multicast_line plan) plan.multicasts) (target_line plan ∷ []) multicasts (target_short, tt) in
-    let are_links = recursion_from_All (IsLink (length plan.groups) plan.delay) plan.links is.links in
+    let are_links = recursion_from_All (IsLink (length plan.groups) (length plan.places) plan.delay) plan.links is.links in
     let links = links_short plan plan.links is short are_links in
-    let lines = lines_append (map (link_line plan) plan.links) (map (multicast_line plan) plan.multicasts ++ target_line plan ∷ []) links messages_and_target in
+    let links_on = lines_append (map (link_line plan) plan.links) (map (multicast_line plan) plan.multicasts ++ target_line plan ∷ []) links messages_and_target in
+    let lines = lines_append (places_lines plan.places) (map (link_line plan) plan.links ++ (map (multicast_line plan) plan.multicasts ++ target_line plan ∷ [])) (places_short plan is short.places) links_on in
     let few = few_links plan is in
+    let lone = places_few plan.places in
+    let placed = length-append (places_lines plan.places) (map (link_line plan) plan.links ++ (map (multicast_line plan) plan.multicasts ++ target_line plan ∷ [])) in
     let all = length-append (map (link_line plan) plan.links) (map (multicast_line plan) plan.multicasts ++ target_line plan ∷ []) in
     let linked = length-map plan.links (link_line plan) in
     let text = text_length (lines_from_delay plan) (delay_short, (groups_short, lines)) in
@@ -261,7 +296,7 @@ tick_length time (Some tick) is =
     let sum = length-append (ended (tick_line tick)) [] in
     omega arith
 
-scenario_length : (version : LinesVersion) (plan : Scenario) → IsScenario plan → length (text_of (scenario_lines version plan)) ≤ 27_441
+scenario_length : (version : LinesVersion) (plan : Scenario) → IsScenario plan → length (text_of (scenario_lines version plan)) ≤ 47_006
 scenario_length version plan is =
     let sum = texts_append (time_lines version plan.time) (tick_lines plan.tick ++ lines_from_delay plan) in
     let more = texts_append (tick_lines plan.tick) (lines_from_delay plan) in

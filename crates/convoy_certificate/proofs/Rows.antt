@@ -2,6 +2,7 @@
 use Rattle.std.proofs.Common.{◌≡◌, ℕ, true, false, List, [], ◌∷◌, ◌++◌, replicate, slice_set, Option, Some, None, Result, Ok, Err, refl, codes}
 use Rattle.std.specs.Fmt.{digits}
 use Rattle.std.specs.List.{AllByRecursion}
+use Rattle.std.specs.Str.{chars, is_utf8}
 use Rattle.convoy_scenario_lines.specs.declared.line_fault.Expected.{Expected}
 use Rattle.convoy_scenario_lines.specs.declared.line_fault.Expected.TheVariants as expected
 use Rattle.convoy_scenario.specs.declared.sender.Sender.{Sender}
@@ -36,8 +37,9 @@ base = record {
     tick = None;
     delay = 3;
     groups = codes "a" ∷ codes "b" ∷ [];
+    places = [];
     links = [];
-    multicasts = message (codes "x") Client (1 ∷ []) 0 ∷ message (codes "t") Client (0 ∷ 1 ∷ []) 0 ∷ message (codes "y") (Group 0) (0 ∷ 1 ∷ []) 6 ∷ [];
+    multicasts = message (codes "x") (Client 0) (1 ∷ []) 0 ∷ message (codes "t") (Client 0) (0 ∷ 1 ∷ []) 0 ∷ message (codes "y") (Group 0) (0 ∷ 1 ∷ []) 6 ∷ [];
     target_message = 1;
     target_group = 0;
   };
@@ -54,6 +56,7 @@ lone = record {
     tick = None;
     delay = 5;
     groups = codes "a" ∷ [];
+    places = [];
     links = [];
     multicasts = message (codes "m") (Group 0) (0 ∷ []) 0 ∷ [];
     target_message = 0;
@@ -77,7 +80,7 @@ foot = codes "target t a\nlatency 12\nschedule 3 3 3 3 3 3 3 3\n"
 -- the base with links from clients to b and from b to a
 abbrev linked : Certificate
 linked = record base {
-  scenario = record base.scenario { links = record { sender = Client; to = 1; least = 2; most = 3; stamps = false } ∷ record { sender = Group 1; to = 0; least = 1; most = 1; stamps = false } ∷ [] };
+  scenario = record base.scenario { links = record { sender = Client 0; to = 1; least = 2; most = 3; stamps = false } ∷ record { sender = Group 1; to = 0; least = 1; most = 1; stamps = false } ∷ [] };
 }
 
 -- the base in real time, with a lead leaf
@@ -96,7 +99,7 @@ tied = record in_real_time { schedule = record in_real_time.schedule { order = r
 abbrev waiting : Certificate
 waiting = record base {
   scenario = record base.scenario {
-    multicasts = message (codes "x") Client (1 ∷ []) 0 ∷ message (codes "t") Client (0 ∷ 1 ∷ []) 0 ∷ record { name = codes "y"; sender = Group 0; destinations = 0 ∷ 1 ∷ []; at = 6; longest_wait = 2 } ∷ [];
+    multicasts = message (codes "x") (Client 0) (1 ∷ []) 0 ∷ message (codes "t") (Client 0) (0 ∷ 1 ∷ []) 0 ∷ record { name = codes "y"; sender = Group 0; destinations = 0 ∷ 1 ∷ []; at = 6; longest_wait = 2 } ∷ [];
   };
   schedule = in_fixed_order (3 ∷ 3 ∷ 3 ∷ 3 ∷ 3 ∷ 0 ∷ 3 ∷ 3 ∷ 3 ∷ []);
   nodes = Split 5 0 ∷ Point ∷ Stamp ∷ [];
@@ -107,7 +110,7 @@ abbrev target_waiting : Time → Certificate
 target_waiting time = record base {
   scenario = record base.scenario {
     time = time;
-    multicasts = message (codes "x") Client (1 ∷ []) 0 ∷ record { name = codes "t"; sender = Client; destinations = 0 ∷ 1 ∷ []; at = 0; longest_wait = 2 } ∷ message (codes "y") (Group 0) (0 ∷ 1 ∷ []) 6 ∷ [];
+    multicasts = message (codes "x") (Client 0) (1 ∷ []) 0 ∷ record { name = codes "t"; sender = Client 0; destinations = 0 ∷ 1 ∷ []; at = 0; longest_wait = 2 } ∷ message (codes "y") (Group 0) (0 ∷ 1 ∷ []) 6 ∷ [];
   };
   schedule = in_fixed_order (3 ∷ 0 ∷ 3 ∷ 3 ∷ 3 ∷ 3 ∷ 3 ∷ 3 ∷ 3 ∷ []);
 }
@@ -119,7 +122,21 @@ agreeing_twice = record base {
   schedule = in_fixed_order (3 ∷ 2 ∷ 3 ∷ 3 ∷ 3 ∷ 3 ∷ 2 ∷ 3 ∷ 3 ∷ 3 ∷ 2 ∷ []);
 }
 
--- its text from the line `delay` to the line `schedule`
+-- the base with two places of clients, one of which issues x; what goes from the other to a takes 1 to 2
+abbrev placed : Certificate
+placed = record base {
+  scenario = record base.scenario {
+    places = codes "eu" ∷ codes "us" ∷ [];
+    links = record { sender = Client 2; to = 0; least = 1; most = 2; stamps = false } ∷ [];
+    multicasts = message (codes "x") (Client 1) (1 ∷ []) 0 ∷ message (codes "t") (Client 0) (0 ∷ 1 ∷ []) 0 ∷ message (codes "y") (Group 0) (0 ∷ 1 ∷ []) 6 ∷ [];
+  };
+}
+
+-- its text
+abbrev placed_text : List ℕ
+placed_text = codes "convoy 4\ntime ticks\ndelay 3\ngroups a b\nplaces eu us\nlink us a 1 2\nmulticast x eu 0 b\nmulticast t client 0 a b\nmulticast y a 6 a b\n" ++ foot ++ codes "b\nend\n"
+
+-- the text of the base whose target waits, from the line `delay` to the line `schedule`
 abbrev target_issued : List ℕ
 target_issued = codes "delay 3\ngroups a b\nmulticast x client 0 b\nmulticast t client 0..2 a b\nmulticast y a 6 a b\ntarget t a\nlatency 12\nschedule 3 0 3 3 3 3 3 3 3\n"
 
@@ -140,16 +157,17 @@ texts_in_ticks : HaveTexts (
 unfolding digits no_order
 texts_in_ticks = (refl, (refl, (refl, (refl, (refl, tt)))))
 
--- in version 4: in real time a line `order` stands there, which is the word alone where ties fall in the fixed order, and a line `tick`, where a tick has a length; where a message may wait, its line has two ticks; the line of a link for stamps, too, has a word for it
+-- in version 4: in real time a line `order` stands there, which is the word alone where ties fall in the fixed order, and a line `tick`, where a tick has a length; where a message may wait, its line has two ticks; the line of a link for stamps, too, has a word for it; where clients are at named places, a line `places` stands there
 texts_with_time : HaveTexts (
     (in_real_time, codes "convoy 4\ntime real\ndelay 3\ngroups a b\n" ++ issued ++ foot ++ codes "order\nc 12\nend\n")
     ∷ (tied, codes "convoy 4\ntime real\ndelay 3\ngroups a b\n" ++ issued ++ foot ++ codes "order 0 0 0 0 1 0 0 0 0 0\nc 12\nend\n")
     ∷ (record in_real_time { scenario = record in_real_time.scenario { tick = Some 50_000 } }, codes "convoy 4\ntime real\ntick 50 us\ndelay 3\ngroups a b\n" ++ issued ++ foot ++ codes "order\nc 12\nend\n")
     ∷ (waiting, codes "convoy 4\ntime ticks\ndelay 3\ngroups a b\nmulticast x client 0 b\nmulticast t client 0 a b\nmulticast y a 6..8 a b\ntarget t a\nlatency 12\nschedule 3 3 3 3 3 0 3 3 3\ns 5 0\np\nt\nend\n")
     ∷ (agreeing_twice, codes "convoy 4\ntime ticks\ndelay 3\ngroups a b\nlink b b 1 2 stamps\n" ++ issued ++ codes "target t a\nlatency 12\nschedule 3 2 3 3 3 3 2 3 3 3 2\nb\nend\n")
+    ∷ (placed, placed_text)
     ∷ [])
 unfolding digits no_order marks_of
-texts_with_time = (refl, (refl, (refl, (refl, (refl, tt)))))
+texts_with_time = (refl, (refl, (refl, (refl, (refl, (refl, tt))))))
 
 -- in version 5: what else has a target that may wait
 texts_of_waiting_targets : HaveTexts (
@@ -229,3 +247,14 @@ others : HaveFaults (
     ∷ (codes "convoy 2\ndelay 3\ngroups a b\nlink b b 1 2 stamps\n", 4, expected.Link) ∷ (codes "convoy 4\ntime ticks\ndelay 3\ngroups a b\nlink client a 1 2 stamps\n", 5, expected.Link) ∷ [])
 unfolding certificate_of scenario_at links_in messages_in nodes_in ranges_of packets_of
 others = (refl, (refl, (refl, (refl, (refl, (refl, (refl, (refl, (refl, tt)))))))))
+
+-- the line `places` stands right after the line `groups`, with one name at least, and in versions 4 and 5 alone
+places : HaveFaults (
+    (codes "convoy 4\ntime ticks\ndelay 3\ngroups a b\nplaces\n", 5, expected.Places) ∷ (codes "convoy 4\ntime ticks\ndelay 3\nplaces eu\ngroups a b\n", 4, expected.Groups)
+    ∷ (codes "convoy 4\ntime ticks\ndelay 3\ngroups a b\nlink a b 1 1\nplaces eu\n", 6, expected.Multicast) ∷ (codes "convoy 2\ndelay 3\ngroups a b\nplaces eu\n", 4, expected.Multicast) ∷ [])
+unfolding certificate_of scenario_at links_in messages_in nodes_in ranges_of packets_of
+places = (refl, (refl, (refl, (refl, tt))))
+
+places_read : certificate_of placed_text ≡ Ok placed
+unfolding certificate_of scenario_at links_in messages_in nodes_in ranges_of packets_of is_utf8 chars lib.Utf8.encode no_order
+places_read = refl

@@ -23,12 +23,12 @@ pub const LONGEST_TEXT: usize = 67_108_864;
 /// What a certificate says: a scenario, the greatest latency of its target, in ticks, a schedule that
 /// has it, and the nodes of a tree that shows that no other schedule has a greater one.
 ///
-/// The schedule is an assignment of the scenario. Where time goes in whole ticks, no message may wait
-/// and no group's own stamps take time, each split names a packet number from 0 to
+/// The schedule is an assignment of the scenario. Where time goes in whole ticks, no message may wait,
+/// no group's own stamps take time and no place has a name, each split names a packet number from 0 to
 /// `GREATEST_UNTIMED_PACKET` and cuts after 1 to `GREATEST_WHOLE_DELAY` ticks; else it names one from 0
-/// to `GREATEST_PACKET`, and cuts after 0 to `GREATEST_DELAY` ticks. Splits by order are of real time alone, each of two numbers of moments that
-/// ascend, and stamp leaves of whole ticks alone. Nothing else is known of the nodes: they may be no
-/// tree, and there may be none.
+/// to `GREATEST_PACKET`, and cuts after 0 to `GREATEST_DELAY` ticks. Splits by order are of real time
+/// alone, each of two numbers of moments that ascend, and stamp leaves of whole ticks alone. Nothing else
+/// is known of the nodes: they may be no tree, and there may be none.
 #[derive(Drop)]
 pub struct Certificate {
     instance: Instance,
@@ -87,8 +87,9 @@ impl Certificate {
 
     /// The version in which the certificate is written: `Five` where its scenario's target may wait, or time is real
     /// there and its tree has a split by order or a point leaf. Else `Four` where time is real, one of the messages
-    /// may wait or some group's own stamps take time; else `Three` where the tree has a lead leaf; else `Two` where the scenario has a link or
-    /// the tree a stamp leaf; else `One` (docs/FORMATS.md, "Certificate text").
+    /// may wait, some group's own stamps take time or places have names; else `Three` where the tree has a lead leaf;
+    /// else `Two` where the scenario has a link or the tree a stamp leaf; else `One` (docs/FORMATS.md, "Certificate
+    /// text").
     pub fn version(&self) -> Version
         ensures { result ≡ version_of self.now }
     {

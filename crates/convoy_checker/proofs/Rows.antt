@@ -133,7 +133,7 @@ first_at_b = refl
 -- in real time t and x come to their group in one tick: either may come first, and before or after the commit of the other
 with_ties : List Node → Certificate
 with_ties nodes = record {
-  scenario = of_two Real 1 (message (codes "t") Client (0 ∷ []) 0 ∷ message (codes "x") Client (0 ∷ []) 0 ∷ []) 0 0;
+  scenario = of_two Real 1 (message (codes "t") (Client 0) (0 ∷ []) 0 ∷ message (codes "x") (Client 0) (0 ∷ []) 0 ∷ []) 0 0;
   latency = 1;
   schedule = in_fixed_order (replicate 2 1);
   nodes = nodes;
@@ -155,7 +155,7 @@ no_order_twice = refl
 -- x from a client to b at tick 0, t from a client to a and b, issued at tick 0 or 1, and y from a to a and b at tick 6; the latency of t is counted from its issue, and is 12 where it is issued at tick 0
 open_start : List Node → Certificate
 open_start nodes = record {
-  scenario = of_two Ticks 3 (message (codes "x") Client (1 ∷ []) 0 ∷ record (message (codes "t") Client (0 ∷ 1 ∷ []) 0) { longest_wait = 1 }
+  scenario = of_two Ticks 3 (message (codes "x") (Client 0) (1 ∷ []) 0 ∷ record (message (codes "t") (Client 0) (0 ∷ 1 ∷ []) 0) { longest_wait = 1 }
       ∷ message (codes "y") (Group 0) (0 ∷ 1 ∷ []) 6 ∷ []) 1 0;
   latency = 12;
   schedule = in_fixed_order (1 ∷ 0 ∷ replicate 7 3);

@@ -294,6 +294,15 @@ above V where groups are silent in outages that last SPAN in all, as when anothe
 replica takes over. The deadline is then judged by V. It takes two searches more.
   convoy latency --outage \"5 s\" scenario.toml
 
+With `--accept SPAN` each group is replicated by white box: a message is delivered only
+once a majority of each group that it goes to has answered, and a packet between the
+leader of a group and its replicas takes at most SPAN. Links between groups are those
+between their leaders, and from the leader of one to the replicas of another. Below the
+first line stands 'accept-latency V', the greatest latency then, or 'accept-open LEAST
+MOST', what it is at least and at most. The deadline is then judged by that, and the
+exit status is 3 where it is open. Neither `--outage` nor `--ceiling` may stand beside.
+  convoy latency --accept \"3 ms\" scenario.toml
+
 Where links say which share of their packets may be out of range, as by the key
 `outside`, a line tells in at most which share of runs some packet is.";
 
@@ -357,6 +366,10 @@ pub(crate) const ABOUT_KINDS: &str =
 pub(crate) const ABOUT_OUTAGE: &str = "\
 Tells what no latency is above through outages that last so long in all, of `ceiling` from
 a message's issue to its delivery, in ticks or as '5 s'; deadlines are judged by that";
+
+pub(crate) const ABOUT_ACCEPT: &str = "\
+Tells the greatest latency where each group is replicated by white box, with at most so
+long between a leader and its replicas, in ticks or as '3 ms'; deadlines are judged by that";
 
 pub(crate) const ABOUT_GROUP: &str =
     "Tells the ceiling at this group of each message that goes to it, as a table";

@@ -12,7 +12,7 @@ const WITH_TABLES: [&str; 7] = [
 ];
 
 /// Options of a command or two, and these commands as they are told.
-const OF_SOME: [(&str, &str); 26] = [
+const OF_SOME: [(&str, &str); 27] = [
     (
         "all",
         "'ceiling', 'budget', 'order', 'plan', 'survey --without' and 'check --plan'",
@@ -20,6 +20,7 @@ const OF_SOME: [(&str, &str); 26] = [
     ("group", "'ceiling'"),
     ("kinds", "'ceiling'"),
     ("outage", "'latency', 'survey' and 'ceiling'"),
+    ("accept", "'latency'"),
     (
         "ceiling",
         "'latency', 'explain', 'survey', 'budget' and 'plan'",

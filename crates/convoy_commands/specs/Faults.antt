@@ -28,11 +28,15 @@ use Rattle.convoy_traces.specs.declared.fault.Cause.TheVariants as trace_lines
 use Rattle.convoy_traces.specs.declared.fault.TraceFault.{TraceFault}
 use Rattle.convoy_traces.specs.declared.fault.TraceFault.TheVariants as traces
 use Rattle.convoy_outages.specs.declared.outage.OutageFault.TheVariants as outages
+use Rattle.convoy_replicas.specs.declared.replicas.ReplicaFault.TheVariants as replicas
+use Rattle.convoy_workflow_words.specs.Words.{workflow_word}
+use Rattle.convoy_workflow_words.specs.declared.fault.WorkflowFault.{WorkflowFault}
+use Rattle.convoy_workflow_words.specs.declared.fault.WorkflowFault.TheVariants as workflows
 use Rattle.convoy_commands.specs.declared.fault.FaultEnding.{FaultEnding}
 use Rattle.convoy_commands.specs.declared.fault.FaultEnding.TheVariants as endings
 use Rattle.convoy_commands.specs.declared.fault.OrderFault.TheVariants as orders
 use Rattle.convoy_commands.specs.declared.fault.Fault.{Fault}
-use Rattle.convoy_commands.specs.declared.fault.Fault.TheVariants.{Scenario, Schedule, Order, Reading, Write, TooManyJobs, Sweep, Ranges, Plan, Kinds, Trace, Outage, Memory}
+use Rattle.convoy_commands.specs.declared.fault.Fault.TheVariants.{Scenario, Schedule, Order, Reading, Write, TooManyJobs, Sweep, Ranges, Plan, Kinds, Trace, Outage, Replicas, Workflow, Memory}
 use Rattle.convoy_commands.specs.declared.fault.SweepCause.{SweepCause}
 use Rattle.convoy_commands.specs.declared.fault.SweepCause.TheVariants as sweeps
 
@@ -41,6 +45,7 @@ abbrev pub limit_word : Limit → List ℕ
 limit_word limits.Delay = codes "delay"
 limit_word limits.Least = codes "least"
 limit_word limits.Groups = codes "groups"
+limit_word limits.Places = codes "places"
 limit_word limits.Multicasts = codes "multicasts"
 limit_word limits.At = codes "at"
 limit_word limits.Until = codes "until"
@@ -165,6 +170,16 @@ row_of_trace (traces.TooFine parts) = (63, codes "times finer than 1/" ++ decima
 row_of_trace traces.NoPacket = (65, codes "no packet")
 row_of_trace traces.Memory = memory_row
 
+-- the number and the text of why a text is that of no workflow: what scenarios have too has the number that it has there
+abbrev pub row_of_workflow : WorkflowFault → ℕ × List ℕ
+row_of_workflow (workflows.Scenario cause) = row_of_scenario cause
+row_of_workflow (workflows.Shape key) = (2, codes "shape of " ++ workflow_word key)
+row_of_workflow workflows.OverLimit = (3, codes "over limit after")
+row_of_workflow workflows.UnknownCause = (71, codes "unknown cause")
+row_of_workflow workflows.NotAtSender = (72, codes "cause not at sender")
+row_of_workflow workflows.UnknownOrigin = (73, codes "unknown origin")
+row_of_workflow workflows.OriginWaits = (74, codes "origin at no known time")
+
 -- a fault's number and its text
 abbrev pub row_of : Fault → ℕ × List ℕ
 row_of (Scenario cause) = row_of_scenario cause
@@ -186,6 +201,9 @@ row_of (Kinds cause) = row_of_kinds cause
 row_of (Trace cause) = row_of_trace cause
 row_of (Outage outages.Unmeasured) = (67, codes "outage without a length of ticks")
 row_of (Outage outages.TooLong) = (68, codes "outage over limit")
+row_of (Replicas replicas.Unmeasured) = (69, codes "accept without a length of ticks")
+row_of (Replicas replicas.TooLong) = (70, codes "accept over limit")
+row_of (Workflow cause) = row_of_workflow cause
 row_of (Reading reading.Memory) = memory_row
 row_of Memory = memory_row
 
@@ -227,6 +245,11 @@ told_of_plan cause = Plan cause
 abbrev pub told_of_kinds : KindsFault → Fault
 told_of_kinds (kinds.Scenario cause) = told_of cause
 told_of_kinds cause = Kinds cause
+
+-- why a text is that of no workflow, as a command tells it
+abbrev pub told_of_workflow : WorkflowFault → Fault
+told_of_workflow (workflows.Scenario cause) = told_of cause
+told_of_workflow cause = Workflow cause
 
 -- why a text is no trace, as a command tells it
 abbrev pub told_of_trace : TraceFault → Fault

@@ -21,6 +21,8 @@ pub enum Done {
     Refused(Refusal),
     /// The text is not that of a valid certificate of a plan.
     PlanRefused,
+    /// The text is not that of a valid certificate of a workflow.
+    WorkflowRefused,
     /// The certificate is valid, but its scenario differs from the one that is wanted, first in this part.
     Differs(Part),
     /// The trace is no run of the scenario: something in it departs from that.

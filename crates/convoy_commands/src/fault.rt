@@ -1,14 +1,16 @@
 ghost use Rattle.std.specs.Prelude.{◌≡◌, ◌≤◌, ◌++◌, length, OnOk, OnErr, IfOk, string_bytes};
-ghost use Rattle.convoy_commands.specs.Faults.{IsShortEnding, ending_text, fault_line_of, kinds_limit_word, limit_word, plan_limit_word, row_of, row_of_kinds, row_of_line, row_of_plan, row_of_ranges, row_of_scenario, row_of_trace, row_of_trace_line, sweep_word, told_of_order};
+ghost use Rattle.convoy_commands.specs.Faults.{IsShortEnding, ending_text, fault_line_of, kinds_limit_word, limit_word, plan_limit_word, row_of, row_of_kinds, row_of_line, row_of_plan, row_of_ranges, row_of_scenario, row_of_trace, row_of_trace_line, row_of_workflow, sweep_word, told_of_order};
 
 use convoy_kinds::{KindsFault, KindsLimit};
 use convoy_outages::OutageFault;
 use convoy_packets::ListFault;
 use convoy_plans::{PlanFault, PlanLimit};
 use convoy_ranges::{Cause, RangesFault};
+use convoy_replicas::ReplicaFault;
 use convoy_scenario::{Limit, ScenarioFault};
 use convoy_streams::ReadFault;
 use convoy_traces::{Cause as TraceCause, TraceFault};
+use convoy_workflow_words::WorkflowFault;
 use std::alloc::{AllocError, Global};
 use thiserror::Error;
 
@@ -56,6 +58,12 @@ pub enum Fault {
     /// No ceiling through outages that last so long can be told.
     #[error(transparent)]
     Outage(OutageFault),
+    /// It can't be told how far replicas are from the leaders of their groups.
+    #[error(transparent)]
+    Replicas(ReplicaFault),
+    /// The text is that of no workflow.
+    #[error(transparent)]
+    Workflow(WorkflowFault),
     /// Memory ran out, which says nothing of the input.
     #[error("out of memory")]
     Memory,
@@ -223,6 +231,31 @@ impl From<OutageFault> for Fault {
     }
 }
 
+impl From<ReplicaFault> for Fault {
+    ghost use Rattle.std.specs.Prelude.{◌≡◌};
+    ghost use Rattle.convoy_commands.specs.declared.fault.Fault.TheVariants.{Replicas};
+
+    ghost from_gives = { λ cause fault. fault ≡ Replicas cause };
+
+    fn from(cause: ReplicaFault) -> Self {
+        Fault::Replicas(cause)
+    }
+}
+
+impl From<WorkflowFault> for Fault {
+    ghost use Rattle.std.specs.Prelude.{◌≡◌};
+    ghost use Rattle.convoy_commands.specs.Faults.{told_of_workflow};
+
+    ghost from_gives = { λ cause fault. fault ≡ told_of_workflow cause };
+
+    fn from(cause: WorkflowFault) -> Self {
+        match cause {
+            WorkflowFault::Scenario(cause) => Fault::from(cause),
+            cause => Fault::Workflow(cause),
+        }
+    }
+}
+
 impl From<ListFault> for Fault {
     ghost use Rattle.std.specs.Prelude.{◌≡◌};
     ghost use Rattle.convoy_commands.specs.Faults.{told_of_list};
@@ -314,6 +347,11 @@ pub fn fault_row(fault: &Fault) -> (u8, &'static str, FaultEnding)
         Fault::Trace(cause) => trace_row(*cause),
         Fault::Outage(OutageFault::Unmeasured) => (67, "outage without a length of ticks", NOTHING),
         Fault::Outage(OutageFault::TooLong) => (68, "outage over limit", NOTHING),
+        Fault::Replicas(ReplicaFault::Unmeasured) => {
+            (69, "accept without a length of ticks", NOTHING)
+        }
+        Fault::Replicas(ReplicaFault::TooLong) => (70, "accept over limit", NOTHING),
+        Fault::Workflow(cause) => workflow_row(*cause),
         Fault::Memory | Fault::Schedule(ListFault::Memory) | Fault::Reading(ReadFault::Memory) => (
             11,
             "out of memory",
@@ -430,6 +468,23 @@ fn kinds_row(fault: KindsFault) -> (u8, &'static str, FaultEnding)
     }
 }
 
+/// The same of a workflow.
+fn workflow_row(fault: WorkflowFault) -> (u8, &'static str, FaultEnding)
+    ensures number { result.0 ≡ (row_of_workflow fault).0 }
+    ensures text { result.1.now ++ ending_text result.2 ≡ (row_of_workflow fault).1 }
+    ensures short { (length result.1.now ≤ 64) × IsShortEnding result.2 }
+{
+    match fault {
+        WorkflowFault::Scenario(cause) => scenario_row(cause),
+        WorkflowFault::Shape(key) => (2, "shape of ", FaultEnding::Word(key.word())),
+        WorkflowFault::OverLimit => (3, "over limit after", NOTHING),
+        WorkflowFault::UnknownCause => (71, "unknown cause", NOTHING),
+        WorkflowFault::NotAtSender => (72, "cause not at sender", NOTHING),
+        WorkflowFault::UnknownOrigin => (73, "unknown origin", NOTHING),
+        WorkflowFault::OriginWaits => (74, "origin at no known time", NOTHING),
+    }
+}
+
 fn word_of_kinds_limit(limit: KindsLimit) -> &'static str
     ensures word { result.now ≡ kinds_limit_word limit }
     ensures short { length result.now ≤ 64 }
@@ -524,6 +579,7 @@ fn word_of_limit(limit: Limit) -> &'static str
         Limit::Delay => "delay",
         Limit::Least => "least",
         Limit::Groups => "groups",
+        Limit::Places => "places",
         Limit::Multicasts => "multicasts",
         Limit::At => "at",
         Limit::Until => "until",

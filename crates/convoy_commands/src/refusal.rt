@@ -83,6 +83,7 @@ fn word_of_line(expected: Expected) -> &'static str
         Expected::Tick => "tick",
         Expected::Delay => "delay",
         Expected::Groups => "groups",
+        Expected::Places => "places",
         Expected::Link => "link",
         Expected::Multicast => "multicast",
         Expected::Target => "target",

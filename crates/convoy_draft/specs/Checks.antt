@@ -1,11 +1,11 @@
 -- The rules for a scenario as it is written, in the order in which they are asked.
-use Rattle.std.specs.Prelude.{ℕ, ◌+◌, ℤ, nat_abs, pos, int_le, Bool, true, false, ◌&&◌, not, nat_le, if◌then◌else◌, List, [], ◌∷◌, ◌++◌, length, Option, Some, None, find, Result, Ok, Err}
+use Rattle.std.specs.Prelude.{ℕ, ◌+◌, ℤ, nat_abs, pos, int_le, Bool, true, false, ◌&&◌, ◌||◌, not, nat_le, if◌then◌else◌, List, [], ◌∷◌, ◌++◌, length, Option, Some, None, find, Result, Ok, Err}
 use Rattle.std.specs.List.{list_all, list_any}
 use Rattle.std.specs.Str.{bytes_eq}
 use Rattle.convoy_draft.specs.declared.fault.ScenarioFault.{ScenarioFault}
 use Rattle.convoy_draft.specs.declared.fault.ScenarioFault.TheVariants.{OverLimit, BadName, DoubleName, UnknownGroup, NoDestination, DoubleDestination, UnknownTarget, TargetNotAddressed}
-use Rattle.convoy_draft.specs.declared.fault.Limit.TheVariants.{Delay, Groups, Multicasts, At, Until, Link, Tick}
-use Rattle.convoy_draft.specs.declared.limits.TheConstants.{GREATEST_AT, LONGEST_WAIT, MOST_GROUPS, MOST_MULTICASTS}
+use Rattle.convoy_draft.specs.declared.fault.Limit.TheVariants.{Delay, Groups, Places, Multicasts, At, Until, Link, Tick}
+use Rattle.convoy_draft.specs.declared.limits.TheConstants.{GREATEST_AT, LONGEST_WAIT, MOST_GROUPS, MOST_MULTICASTS, MOST_PLACES}
 use Rattle.convoy_draft.specs.Draft.{Draft, DraftLink, DraftMessage}
 use Rattle.convoy_draft.specs.Limits.{greatest_delay, is_tick}
 use Rattle.convoy_draft.specs.Names.{is_name, is_group_name}
@@ -35,14 +35,18 @@ abbrev pub all_differ : List (List ℕ) → Bool
 all_differ [] = true
 all_differ (name ∷ rest) = not (is_among name rest) && all_differ rest
 
--- the sender is a client, or one of the groups
-abbrev pub is_known_sender : List (List ℕ) → Option (List ℕ) → Bool
-is_known_sender groups None = true
-is_known_sender groups (Some name) = is_among name groups
+-- no two of the places have the same name, and none has that of a group
+abbrev pub places_differ : List (List ℕ) → List (List ℕ) → Bool
+places_differ groups places = all_differ places && list_all (λ name. not (is_among name groups)) places
 
--- sender and destinations of the message are among the groups
-abbrev pub knows : List (List ℕ) → DraftMessage → Bool
-knows groups message = is_known_sender groups message.sender && list_all (λ name. is_among name groups) message.to
+-- the sender is a client of no named place, or one of the groups, or of the places
+abbrev pub is_known_sender : List (List ℕ) → List (List ℕ) → Option (List ℕ) → Bool
+is_known_sender groups places None = true
+is_known_sender groups places (Some name) = is_among name groups || is_among name places
+
+-- the message's sender is known, and its destinations are among the groups
+abbrev pub knows : List (List ℕ) → List (List ℕ) → DraftMessage → Bool
+knows groups places message = is_known_sender groups places message.sender && list_all (λ name. is_among name groups) message.to
 
 -- one of the messages has the name
 abbrev pub is_message : List ℕ → List DraftMessage → Bool
@@ -73,9 +77,9 @@ links_differ (link ∷ rest) = not (list_any (is_same_pair link) rest) && links_
 abbrev pub has_range : ℤ → DraftLink → Bool
 has_range delay link = int_le (pos 1) link.least && int_le link.least link.most && int_le link.most delay
 
--- both ends of the link are among the groups
-abbrev pub knows_link : List (List ℕ) → DraftLink → Bool
-knows_link groups link = is_known_sender groups link.sender && is_among link.to groups
+-- the link's sender is known, and it leads to one of the groups
+abbrev pub knows_link : List (List ℕ) → List (List ℕ) → DraftLink → Bool
+knows_link groups places link = is_known_sender groups places link.sender && is_among link.to groups
 
 -- the link leads to another place than its sender
 abbrev pub leads_elsewhere : DraftLink → Bool
@@ -97,6 +101,7 @@ abbrev pub limit_checks : Draft → List Check
 limit_checks draft =
     (is_within 1 (greatest_delay draft.time) draft.delay, OverLimit Delay)
     ∷ (is_count MOST_GROUPS draft.groups, OverLimit Groups)
+    ∷ (nat_le (length draft.places) MOST_PLACES, OverLimit Places)
     ∷ (is_count MOST_MULTICASTS draft.messages, OverLimit Multicasts)
     ∷ (list_all (λ message. is_within 0 GREATEST_AT message.at) draft.messages, OverLimit At)
     ∷ (list_all has_wait draft.messages, OverLimit Until)
@@ -108,8 +113,10 @@ limit_checks draft =
 abbrev pub name_checks : Draft → List Check
 name_checks draft =
     (list_all is_group_name draft.groups, BadName)
+    ∷ (list_all is_group_name draft.places, BadName)
     ∷ (list_all (λ message. is_name message.name) draft.messages, BadName)
     ∷ (all_differ draft.groups, DoubleName)
+    ∷ (places_differ draft.groups draft.places, DoubleName)
     ∷ (messages_differ draft.messages, DoubleName)
     ∷ (links_differ draft.links, DoubleName)
     ∷ []
@@ -117,9 +124,9 @@ name_checks draft =
 -- the rules on what refers to groups and messages
 abbrev pub reference_checks : Draft → List Check
 reference_checks draft =
-    (list_all (knows draft.groups) draft.messages, UnknownGroup)
+    (list_all (knows draft.groups draft.places) draft.messages, UnknownGroup)
     ∷ (is_among draft.target_group draft.groups, UnknownGroup)
-    ∷ (list_all (knows_link draft.groups) draft.links, UnknownGroup)
+    ∷ (list_all (knows_link draft.groups draft.places) draft.links, UnknownGroup)
     ∷ (list_all (λ message. nat_le 1 (length message.to)) draft.messages, NoDestination)
     ∷ (list_all (λ message. all_differ message.to) draft.messages, DoubleDestination)
     ∷ (is_message draft.target_message draft.messages, UnknownTarget)

@@ -2,7 +2,7 @@
 use Rattle.std.specs.Prelude.{ℕ, if◌then◌else◌, List, Option, Some, None, codes}
 use Rattle.std.specs.Str.{bytes_eq}
 use Rattle.convoy_draft.specs.declared.fault.Key.{Key}
-use Rattle.convoy_draft.specs.declared.fault.Key.TheVariants.{Time, Tick, Delay, Groups, Multicast, Name, From, To, At, Until, Within, Target, Message, Group, Link, Least, Most, Both, Stamps, Agree, Steps, Schedule, Order, Unknown}
+use Rattle.convoy_draft.specs.declared.fault.Key.TheVariants.{Time, Tick, Delay, Groups, Places, Multicast, Name, From, To, At, Until, Within, Target, Message, Group, Link, Least, Most, Both, Stamps, Agree, Steps, Schedule, Order, Unknown}
 use Rattle.convoy_draft.specs.declared.time.Time.{Time as AnyTime}
 use Rattle.convoy_draft.specs.declared.time.Time.TheVariants.{Ticks, Real}
 
@@ -12,6 +12,7 @@ key_word Time = codes "time"
 key_word Tick = codes "tick"
 key_word Delay = codes "delay"
 key_word Groups = codes "groups"
+key_word Places = codes "places"
 key_word Multicast = codes "multicast"
 key_word Name = codes "name"
 key_word From = codes "from"

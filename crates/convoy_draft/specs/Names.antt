@@ -1,4 +1,4 @@
--- What a name is, of a message and of a group.
+-- What a name is, of a message, of a group and of a place.
 use Rattle.std.specs.Prelude.{ℕ, ◌==◌, Bool, false, ◌&&◌, ◌||◌, not, nat_le, List, [], ◌∷◌, length, codes}
 use Rattle.std.specs.List.{list_all}
 use Rattle.std.specs.Str.{bytes_eq}
@@ -21,10 +21,10 @@ abbrev pub is_name : List ℕ → Bool
 is_name [] = false
 is_name (c ∷ cs) = is_letter c && list_all is_name_byte cs && nat_le (length (c ∷ cs)) LONGEST_NAME
 
--- the text that no group has as its name, since it stands for a client
+-- the text that no group and no place has as its name, since it stands for a client of no named place
 abbrev pub client_word : List ℕ
 client_word = codes "client"
 
--- a name that a group may have
+-- a name that a group or a place may have
 abbrev pub is_group_name : List ℕ → Bool
 is_group_name name = is_name name && not (bytes_eq name client_word)

@@ -3,12 +3,14 @@ ghost use Rattle.std.specs.List.{list_all, list_any};
 ghost use Rattle.std.specs.Str.{bytes_eq};
 ghost use Rattle.convoy_draft.specs.Limits.{is_tick};
 ghost use Rattle.convoy_draft.specs.Names.{is_name, is_group_name};
-ghost use Rattle.convoy_draft.specs.Checks.{is_within, ticks, has_wait, is_count, is_among, all_differ, is_known_sender, is_message, messages_differ, knows, is_target_addressed, is_named_alike, is_same_pair, links_differ, has_range, knows_link, leads_elsewhere, limit_checks, name_checks, reference_checks, checks, judge};
+ghost use Rattle.convoy_draft.specs.Checks.{is_within, ticks, has_wait, is_count, is_among, all_differ, places_differ, is_known_sender, is_message, messages_differ, knows, is_target_addressed, is_named_alike, is_same_pair, links_differ, has_range, knows_link, leads_elsewhere, limit_checks, name_checks, reference_checks, checks, judge};
 
 use super::draft::{DraftLink, DraftMulticast, DraftScenario};
 use super::duration::{Duration, LONGEST_DURATION, MOST_UNITS};
 use super::fault::{Limit, ScenarioFault};
-use super::limits::{GREATEST_AT, GREATEST_DELAY, LONGEST_WAIT, MOST_GROUPS, MOST_MULTICASTS};
+use super::limits::{
+    GREATEST_AT, GREATEST_DELAY, LONGEST_WAIT, MOST_GROUPS, MOST_MULTICASTS, MOST_PLACES,
+};
 use super::name::Name;
 use super::time::Time;
 
@@ -29,6 +31,9 @@ fn check_limits(draft: &DraftScenario) -> Result<(), ScenarioFault>
     }
     if !is_count(draft.groups.len(), MOST_GROUPS) {
         return Err(ScenarioFault::OverLimit(Limit::Groups));
+    }
+    if MOST_PLACES < draft.places.len() {
+        return Err(ScenarioFault::OverLimit(Limit::Places));
     }
     if !is_count(draft.multicasts.len(), MOST_MULTICASTS) {
         return Err(ScenarioFault::OverLimit(Limit::Multicasts));
@@ -54,10 +59,16 @@ fn check_names(draft: &DraftScenario) -> Result<(), ScenarioFault>
     if !group_names_are_good(&draft.groups) {
         return Err(ScenarioFault::BadName);
     }
+    if !group_names_are_good(&draft.places) {
+        return Err(ScenarioFault::BadName);
+    }
     if !message_names_are_good(&draft.multicasts) {
         return Err(ScenarioFault::BadName);
     }
     if !all_differ(&draft.groups) {
+        return Err(ScenarioFault::DoubleName);
+    }
+    if !places_differ(&draft.groups, &draft.places) {
         return Err(ScenarioFault::DoubleName);
     }
     if !messages_differ(&draft.multicasts) {
@@ -72,13 +83,13 @@ fn check_names(draft: &DraftScenario) -> Result<(), ScenarioFault>
 fn check_references(draft: &DraftScenario) -> Result<(), ScenarioFault>
     ensures { result ≡ judge (reference_checks draft.now) }
 {
-    if !all_are_known(&draft.groups, &draft.multicasts) {
+    if !all_are_known(&draft.groups, &draft.places, &draft.multicasts) {
         return Err(ScenarioFault::UnknownGroup);
     }
     if !draft.target_group.is_among(&draft.groups) {
         return Err(ScenarioFault::UnknownGroup);
     }
-    if !all_links_are_known(&draft.groups, &draft.links) {
+    if !all_links_are_known(&draft.groups, &draft.places, &draft.links) {
         return Err(ScenarioFault::UnknownGroup);
     }
     if !all_go_somewhere(&draft.multicasts) {
@@ -220,11 +231,25 @@ fn messages_differ(multicasts: &[DraftMulticast]) -> bool
     true
 }
 
-fn is_known_sender(groups: &[Name], sender: &Option<Name>) -> bool
-    ensures { result ≡ is_known_sender groups.now sender.now }
+/// Whether no two of the places have the same name, and none has that of a group.
+fn places_differ(groups: &[Name], places: &[Name]) -> bool
+    ensures { result ≡ places_differ groups.now places.now }
+{
+    all_differ(places) && are_apart(groups, places)
+}
+
+/// Whether none of the places has the name of a group.
+fn are_apart(groups: &[Name], places: &[Name]) -> bool
+    ensures { result ≡ list_all (λ name. not (is_among name groups.now)) places.now }
+{
+    places.iter().all(|name| !name.is_among(groups))
+}
+
+fn is_known_sender(groups: &[Name], places: &[Name], sender: &Option<Name>) -> bool
+    ensures { result ≡ is_known_sender groups.now places.now sender.now }
 {
     match sender {
-        Some(name) => name.is_among(groups),
+        Some(name) => name.is_among(groups) || name.is_among(places),
         None => true,
     }
 }
@@ -235,16 +260,16 @@ fn are_among(names: &[Name], groups: &[Name]) -> bool
     names.iter().all(|name| name.is_among(groups))
 }
 
-fn knows(groups: &[Name], multicast: &DraftMulticast) -> bool
-    ensures { result ≡ knows groups.now multicast.now }
+fn knows(groups: &[Name], places: &[Name], multicast: &DraftMulticast) -> bool
+    ensures { result ≡ knows groups.now places.now multicast.now }
 {
-    is_known_sender(groups, &multicast.sender) && are_among(&multicast.to, groups)
+    is_known_sender(groups, places, &multicast.sender) && are_among(&multicast.to, groups)
 }
 
-fn all_are_known(groups: &[Name], multicasts: &[DraftMulticast]) -> bool
-    ensures { result ≡ list_all (knows groups.now) multicasts.now }
+fn all_are_known(groups: &[Name], places: &[Name], multicasts: &[DraftMulticast]) -> bool
+    ensures { result ≡ list_all (knows groups.now places.now) multicasts.now }
 {
-    multicasts.iter().all(|m| knows(groups, m))
+    multicasts.iter().all(|m| knows(groups, places, m))
 }
 
 fn all_go_somewhere(multicasts: &[DraftMulticast]) -> bool
@@ -325,16 +350,16 @@ fn links_differ(links: &[DraftLink]) -> bool
     true
 }
 
-fn knows_link(groups: &[Name], link: &DraftLink) -> bool
-    ensures { result ≡ knows_link groups.now link.now }
+fn knows_link(groups: &[Name], places: &[Name], link: &DraftLink) -> bool
+    ensures { result ≡ knows_link groups.now places.now link.now }
 {
-    is_known_sender(groups, &link.sender) && link.to.is_among(groups)
+    is_known_sender(groups, places, &link.sender) && link.to.is_among(groups)
 }
 
-fn all_links_are_known(groups: &[Name], links: &[DraftLink]) -> bool
-    ensures { result ≡ list_all (knows_link groups.now) links.now }
+fn all_links_are_known(groups: &[Name], places: &[Name], links: &[DraftLink]) -> bool
+    ensures { result ≡ list_all (knows_link groups.now places.now) links.now }
 {
-    links.iter().all(|link| knows_link(groups, link))
+    links.iter().all(|link| knows_link(groups, places, link))
 }
 
 impl DraftLink {

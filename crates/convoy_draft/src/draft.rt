@@ -9,7 +9,7 @@ use std::marker::Model;
 #[derive(Drop)]
 pub struct DraftMulticast {
     pub name: Name,
-    /// The group that sends it, or none where a client does.
+    /// The group that sends it, or the place of the client that does; none for a client of no named place.
     pub sender: Option<Name>,
     /// The groups that it goes to, in the order in which they are written.
     pub to: Vec<Name>,
@@ -29,7 +29,7 @@ impl Model for DraftMulticast {
 /// be these a range or not.
 #[derive(Drop)]
 pub struct DraftLink {
-    /// The group that sends, or none where a client does.
+    /// The group that sends, or the place of the clients that do; none for clients of no named place.
     pub sender: Option<Name>,
     pub to: Name,
     /// The least delay, in ticks.
@@ -59,6 +59,8 @@ pub struct DraftScenario {
     pub delay: i64,
     /// The names of the groups, in the order of their numbers.
     pub groups: Vec<Name>,
+    /// The names of the places at which clients are, in the order of their numbers. Nothing goes to a place.
+    pub places: Vec<Name>,
     /// The links, in any order.
     pub links: Vec<DraftLink>,
     /// The messages, in the order of their numbers.
@@ -77,6 +79,7 @@ impl Model for DraftScenario {
       tick = d.tick;
       delay = d.delay;
       groups = d.groups.items;
+      places = d.places.items;
       links = d.links.items;
       messages = d.multicasts.items;
       target_message = d.target_message;

@@ -4,7 +4,7 @@ ghost use Rattle.convoy_draft.specs.declared.fault.ScenarioFault.TheVariants.{Me
 use super::duration::{LONGEST_DURATION, MOST_UNITS};
 use super::limits::{
     GREATEST_AT, GREATEST_DELAY, GREATEST_WHOLE_DELAY, LONGEST_NAME, LONGEST_WAIT, MOST_GROUPS,
-    MOST_LINKS, MOST_MULTICASTS,
+    MOST_LINKS, MOST_MULTICASTS, MOST_PLACES,
 };
 use std::alloc::{AllocError, AllocFailed};
 use std::fmt;
@@ -17,6 +17,7 @@ pub enum Key {
     Tick,
     Delay,
     Groups,
+    Places,
     Multicast,
     Name,
     From,
@@ -50,6 +51,8 @@ pub enum Limit {
     Least,
     /// There are 1 to `MOST_GROUPS` groups.
     Groups,
+    /// There are at most `MOST_PLACES` places.
+    Places,
     /// There are 1 to `MOST_MULTICASTS` multicasts.
     Multicasts,
     /// A message is issued at a tick from 0 to `GREATEST_AT`, or waits from then on.
@@ -86,13 +89,14 @@ pub enum ScenarioFault {
     #[error("over a limit: {0}")]
     OverLimit(Limit),
     /// A name is not of 1 to `LONGEST_NAME` bytes of `a` to `z`, `0` to `9`, `_` and `-` with a
-    /// letter first, or a group is named `client`.
+    /// letter first, or a group or a place is named `client`.
     #[error("a name is not one of 1 to {longest} bytes a to z, 0 to 9, _ and -, with a letter first", longest = LONGEST_NAME)]
     BadName,
-    /// Two groups, or two messages, have one name, or two links lead from one sender to one group.
+    /// Two groups or places, or two messages, have one name, or two links lead from one sender to one group.
     #[error("two groups or two messages have one name, or two links lead from one sender to one group")]
     DoubleName,
-    /// A sender, a destination, the target's group or an end of a link is no group.
+    /// A destination, the target's group or the end to which a link leads is no group, or a sender is neither a group
+    /// nor a place.
     #[error("a sender, a destination, the target's group or an end of a link is no group")]
     UnknownGroup,
     /// A message goes nowhere.
@@ -129,6 +133,7 @@ impl Key {
             Key::Tick => "tick",
             Key::Delay => "delay",
             Key::Groups => "groups",
+            Key::Places => "places",
             Key::Multicast => "multicast",
             Key::Name => "name",
             Key::From => "from",
@@ -171,6 +176,7 @@ impl fmt::Display for Limit {
                 "the least delay of what goes by no link is 1 or more, and at most the greatest delay"
             ),
             Limit::Groups => write!(f, "there are 1 to {MOST_GROUPS} groups"),
+            Limit::Places => write!(f, "there are at most {MOST_PLACES} places"),
             Limit::Multicasts => write!(f, "there are 1 to {MOST_MULTICASTS} multicasts"),
             Limit::At => write!(f, "a message is issued at a tick from 0 to {GREATEST_AT}"),
             Limit::Until => write!(

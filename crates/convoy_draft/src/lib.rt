@@ -8,7 +8,7 @@ pub use duration::{Duration, LONGEST_DURATION, MOST_UNITS, TimeUnit};
 pub use fault::{Key, Limit, ScenarioFault};
 pub use limits::{
     GREATEST_AT, GREATEST_DELAY, GREATEST_UNTIL, GREATEST_WHOLE_DELAY, LONGEST_NAME, LONGEST_WAIT,
-    MOST_GROUPS, MOST_LINKS, MOST_MULTICASTS,
+    MOST_GROUPS, MOST_LINKS, MOST_MULTICASTS, MOST_PLACES,
 };
 pub use memory::AllocResult;
 pub use name::Name;

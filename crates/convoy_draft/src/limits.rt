@@ -10,8 +10,11 @@ pub const MOST_GROUPS: usize = 8;
 /// How many multicasts a scenario has at most.
 pub const MOST_MULTICASTS: usize = 16;
 
-/// How many links a scenario has at most: one from each sender, the client among them, to each group.
-pub const MOST_LINKS: usize = (MOST_GROUPS + 1) * MOST_GROUPS;
+/// How many places of clients a scenario names at most.
+pub const MOST_PLACES: usize = 8;
+
+/// How many links a scenario has at most: one from each sender, the client of no named place among them, to each group.
+pub const MOST_LINKS: usize = (MOST_PLACES + 1 + MOST_GROUPS) * MOST_GROUPS;
 
 /// The last tick that may be written as the first at which a message is issued.
 pub const GREATEST_AT: u32 = 1_000_000;

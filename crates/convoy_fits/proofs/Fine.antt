@@ -37,9 +37,9 @@ same_lists (x ∷ xs) (y ∷ ys) e =
     cc
 
 same_senders : (s t : Sender) → is_same_sender s t ≡ true → s ≡ t
-same_senders Client Client e = refl
-same_senders Client (Group g) e = absurd (false≢true e)
-same_senders (Group g) Client e = absurd (false≢true e)
+same_senders (Client p) (Client q) e = ap Client (eqb-true p q e)
+same_senders (Client p) (Group g) e = absurd (false≢true e)
+same_senders (Group g) (Client q) e = absurd (false≢true e)
 same_senders (Group g) (Group h) e = ap Group (eqb-true g h e)
 
 finer_message : (factor : ℕ) (message finer : Message) → is_finer_message factor message finer ≡ true → IsFinerMessage factor message finer

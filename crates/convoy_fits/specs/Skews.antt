@@ -13,7 +13,7 @@ use Rattle.convoy_fits.specs.declared.teller.Teller.TheVariants as tellers
 
 -- by whose clock the issue of a message is told
 abbrev pub issue_teller : ℕ → Sender → Teller
-issue_teller m Client = tellers.Client m
+issue_teller m (Client p) = tellers.Client m
 issue_teller m (Group g) = tellers.Group g
 
 -- by whose clock an event is told: by that of its group, and the issue of a message of a client by one of its own

@@ -7,7 +7,7 @@ use super::told_times::time_told;
 use convoy_draft::{AllocResult, DraftLink, DraftMulticast, DraftScenario, Name, Time};
 use convoy_scenario::lookup::window;
 use convoy_scenario::naming::{
-    draft_destinations, draft_group, draft_groups, draft_sender, message_name,
+    draft_destinations, draft_group, draft_groups, draft_places, draft_sender, message_name,
 };
 use convoy_scenario::{GREATEST_AT, Scenario, Sender};
 use convoy_traces::{Event, Told};
@@ -119,7 +119,9 @@ fn push_links(
 /// it has one, for stamps where that is. Fails where memory runs out, and else never.
 fn fine_links(alloc: Global, scenario: &Scenario, factor: u16) -> AllocResult<Vec<DraftLink>> {
     let mut links = Vec::new(alloc);
-    push_links(alloc, scenario, factor, Sender::Client, &mut links)?;
+    for place in 0..scenario.place_count() + 1 {
+        push_links(alloc, scenario, factor, Sender::Client(place), &mut links)?;
+    }
     for group in 0..scenario.group_count() {
         push_links(alloc, scenario, factor, Sender::Group(group), &mut links)?;
     }
@@ -138,6 +140,7 @@ pub(crate) fn fine_draft(
         tick: None,
         delay: i64::from(scenario.delay()) * i64::from(factor),
         groups: draft_groups(alloc, scenario)?,
+        places: draft_places(alloc, scenario)?,
         links: fine_links(alloc, scenario, factor)?,
         multicasts: fine_messages(alloc, scenario, trace)?,
         target_message: Name::new(alloc, message_name(scenario, scenario.target_message()))?,

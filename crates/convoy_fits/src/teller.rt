@@ -20,7 +20,7 @@ pub(crate) fn teller_of(scenario: &Scenario, message: usize, event: Event) -> Te
 {
     match event {
         Event::Issue => match sender_of(scenario, message) {
-            Sender::Client => Teller::Client(message),
+            Sender::Client(_) => Teller::Client(message),
             Sender::Group(group) => Teller::Group(group),
         },
         Event::Arrival(group) => Teller::Group(group),

@@ -278,6 +278,7 @@ fn form_of_line(expected: Expected, text: &[u8]) -> &'static str {
             "'tick COUNT UNIT', in the greatest of the units s, ms, us and ns that divides it",
         Expected::Delay => "'delay D'",
         Expected::Groups => "'groups G ..'",
+        Expected::Places => "'places P ..'",
         Expected::Link =>
             "'link FROM TO LEAST MOST', in ascending order, and not with the range 1 to D but from a group to itself",
         Expected::Multicast if says_time(text) =>

@@ -1,7 +1,7 @@
 //! How the scenario of a certificate differs from the one that is wanted.
 
 use convoy_hints_sketch::{Hint, Length, Names, Ordinal, Quoted, noun, shown_time, words_of};
-use convoy_scenario::naming::{draft_message, group_name, message_name};
+use convoy_scenario::naming::{draft_message, group_name, message_name, place_name};
 use convoy_scenario::{DraftMulticast, Link, Scenario, Sender};
 use std::alloc::{AllocError, Global};
 
@@ -48,6 +48,9 @@ fn difference_in_parts(alloc: Global, found: &Scenario, wanted: &Scenario) -> Hi
         return Ok(Some(line));
     }
     if let Some(line) = difference_in_groups(alloc, found, wanted)? {
+        return Ok(Some(line));
+    }
+    if let Some(line) = difference_in_places(alloc, found, wanted)? {
         return Ok(Some(line));
     }
     if let Some(line) = difference_in_links(alloc, found, wanted)? {
@@ -98,6 +101,30 @@ fn difference_in_groups(alloc: Global, found: &Scenario, wanted: &Scenario) -> H
     told(alloc, "the groups are", here.as_str(), there.as_str())
 }
 
+/// The places of clients, by their names and in their order.
+fn difference_in_places(alloc: Global, found: &Scenario, wanted: &Scenario) -> Hint {
+    let (here, there) = (places_in(alloc, found)?, places_in(alloc, wanted)?);
+    told(
+        alloc,
+        "the places of clients are",
+        here.as_str(),
+        there.as_str(),
+    )
+}
+
+/// The names of all places, or that there are none.
+fn places_in(alloc: Global, scenario: &Scenario) -> Result<String, AllocError> {
+    let mut names = Vec::new(alloc);
+    for place in 0..scenario.place_count() {
+        names.push(scenario.place_name(place))?;
+    }
+    if names.is_empty() {
+        return String::from_str(alloc, "none");
+    }
+    let names = Names(&names);
+    format!(in alloc; "{names}")
+}
+
 /// The names of all groups.
 fn groups_in(alloc: Global, scenario: &Scenario) -> Result<String, AllocError> {
     let mut names = Vec::new(alloc);
@@ -136,7 +163,11 @@ fn difference_in_link(alloc: Global, found: &Scenario, wanted: &Scenario, link: 
 /// Who sends, in words.
 fn sender_in(alloc: Global, scenario: &Scenario, sender: Sender) -> Result<String, AllocError> {
     match sender {
-        Sender::Client => String::from_str(alloc, "a client"),
+        Sender::Client(0) => String::from_str(alloc, "a client"),
+        Sender::Client(place) => {
+            let place = Quoted(place_name(scenario, place));
+            format!(in alloc; "a client at {place}")
+        }
         Sender::Group(group) => {
             let group = Quoted(group_name(scenario, group));
             format!(in alloc; "{group}")

@@ -17,6 +17,7 @@ pub use device_hints::{
 pub use difference_hints::hint_for_difference;
 pub use job_hints::hint_for_batch;
 pub use outage_hints::{hint_for_open_through_outages, hint_for_outage};
+pub use replica_hints::{hint_for_open_accept, hint_for_replicas};
 pub use search_hints::{
     hint_for_both, hint_for_ceiling, hint_for_changes, hint_for_first, hint_for_greatest,
     hint_for_late_certificate, hint_for_late_message, hint_for_leads, hint_for_limit,
@@ -32,6 +33,7 @@ mod dividers;
 mod job_hints;
 mod outage_hints;
 mod paths;
+mod replica_hints;
 mod scenario_lines;
 mod search_hints;
 mod tree_hints;

@@ -16,6 +16,7 @@ pub(crate) fn sketch_of_lines(alloc: Global, text: &str) -> Result<Sketch<'_>, A
             tick: None,
             delay: 0,
             groups: Vec::new(alloc),
+            places: Vec::new(alloc),
             links: Vec::new(alloc),
             multicasts: Vec::new(alloc),
             target_message: Name::new(alloc, "")?,
@@ -73,6 +74,7 @@ fn add_line<'a>(
         ["tick", count, unit] => draft.tick = length_of(count, unit),
         ["delay", delay] => draft.delay = number_of(delay),
         ["groups", groups @ ..] => draft.groups = names_of(alloc, groups)?,
+        ["places", places @ ..] => draft.places = names_of(alloc, places)?,
         ["link", sender, to, least, most, stamps @ ..] => {
             let table = ScenarioTable::Link(sketch.links.len());
             sketch.links.push(part_at(table, None, number))?;

@@ -8,22 +8,25 @@ use super::kind_hints::{hint_for_kinds, hint_for_shared};
 use super::sweep_hints::hint_for_sweep;
 use super::table_hints::hint_for_table;
 use super::trace_hints::{hint_for_long_trace, hint_for_trace};
+use super::workflow_hints::{
+    hint_for_open_workflow, hint_for_scenario_of_workflow, hint_for_workflow,
+};
 use convoy_arguments::{Input, REJECTED, Verdict};
 use convoy_batches::MOST_JOBS;
 use convoy_command_line::{MOST_SECONDS, hint_for_words};
 use convoy_commands::{
     Bounds, Done, Fault, Known, LONGEST_JOB, ListFault, MOST_SIMULATIONS, MOST_STEPS, MOST_TICKETS,
-    Options, OrderFault, ReadFault, ScenarioFault, Ways, lead_share, plain_share,
+    Options, OrderFault, ReadFault, ScenarioFault, Telling, Ways, lead_share, plain_share,
 };
 use convoy_hints::{
     CheckedText, Hint, hint_for_batch, hint_for_both, hint_for_ceiling, hint_for_certificate,
     hint_for_changes, hint_for_difference, hint_for_file_as_group, hint_for_first,
     hint_for_given_order, hint_for_given_schedule, hint_for_greatest, hint_for_jobs,
     hint_for_late_certificate, hint_for_late_message, hint_for_leads, hint_for_length,
-    hint_for_limit, hint_for_named_group, hint_for_open_through_outages, hint_for_order,
-    hint_for_order_in_ticks, hint_for_outage, hint_for_plain_number, hint_for_plan,
-    hint_for_reading, hint_for_scenario, hint_for_seconds, hint_for_tickets, hint_for_unchecked,
-    hint_for_writing, hint_of_text, is_name_of_file, line_for_file,
+    hint_for_limit, hint_for_named_group, hint_for_open_accept, hint_for_open_through_outages,
+    hint_for_order, hint_for_order_in_ticks, hint_for_outage, hint_for_plain_number, hint_for_plan,
+    hint_for_reading, hint_for_replicas, hint_for_scenario, hint_for_seconds, hint_for_tickets,
+    hint_for_unchecked, hint_for_writing, hint_of_text, is_name_of_file, line_for_file,
 };
 use convoy_plans::PlanFault;
 use convoy_scenario::Scenario;
@@ -32,6 +35,7 @@ use convoy_task_list::{
     CertificateTask, KindsTask, PlanTask, ScenarioTask, SearchTask, Task, TraceTask,
 };
 use convoy_toml::Asked;
+use convoy_workflows::is_workflow;
 use std::alloc::{AllocError, Global};
 use std::io::{Error, Write};
 
@@ -191,7 +195,7 @@ fn hint_for_end<R, W>(alloc: Global, run: &Finished<'_, R, W>, end: &End) -> Hin
             _ => Ok(None),
         },
         Done::Open if !is_batch(run.verdict) => hint_for_open(alloc, run),
-        Done::Departs | Done::PlanRefused => Ok(None),
+        Done::Departs | Done::PlanRefused | Done::WorkflowRefused => Ok(None),
         Done::Fine | Done::Open | Done::Beyond | Done::Faulty => hint_for_answer(alloc, run, end),
     }
 }
@@ -217,9 +221,9 @@ fn hint_for_fault<R, W>(alloc: Global, run: &Finished<'_, R, W>, fault: &Fault) 
         }
         Fault::Scenario(fault) if reads_kinds(run.verdict) => hint_for_shared(alloc, *fault),
         Fault::Kinds(fault) => hint_for_kinds(alloc, *fault).map(Some),
+        Fault::Workflow(fault) => hint_for_workflow(alloc, *fault).map(Some),
         Fault::Scenario(fault) if reader.is_whole() => {
-            let asked = asked_of_input(run);
-            hint_for_scenario_or_group(alloc, run.verdict, reader.text(), asked, *fault)
+            hint_for_scenario_text(alloc, run, reader.text(), *fault)
         }
         Fault::Schedule(fault) if reader.is_whole() => {
             hint_for_given_schedule(alloc, reader.text(), *fault)
@@ -248,12 +252,46 @@ fn hint_for_fault<R, W>(alloc: Global, run: &Finished<'_, R, W>, fault: &Fault) 
         Fault::Ranges(cause) => hint_for_table(alloc, *cause),
         Fault::Trace(cause) => hint_for_trace(alloc, *cause).map(Some),
         Fault::Outage(cause) => hint_for_outage(alloc, *cause).map(Some),
+        Fault::Replicas(cause) => hint_for_replicas(alloc, *cause).map(Some),
         Fault::Scenario(_)
         | Fault::Plan(_)
         | Fault::Schedule(_)
         | Fault::Order(_)
         | Fault::Reading(ReadFault::TooManyReads | ReadFault::Memory)
         | Fault::Memory => Ok(None),
+    }
+}
+
+/// The hint for a fault that a scenario has, in the text of one or of a workflow.
+fn hint_for_scenario_text<R, W>(
+    alloc: Global,
+    run: &Finished<'_, R, W>,
+    text: &[u8],
+    fault: ScenarioFault,
+) -> Hint {
+    if tells_workflow(alloc, text)? {
+        return hint_for_scenario_of_workflow(alloc, takes_workflow(run.verdict), fault);
+    }
+    let asked = asked_of_input(run);
+    hint_for_scenario_or_group(alloc, run.verdict, text, asked, fault)
+}
+
+/// Whether the command line asks for what is told of a workflow, too.
+fn takes_workflow(verdict: &Verdict) -> bool {
+    match verdict {
+        Verdict::Ask { task, .. } => matches!(
+            task,
+            Task::Tell(Telling::Toml)
+                | Task::Search {
+                    what: SearchTask::Latency {
+                        with_ceiling: false,
+                        outage: None,
+                        accept: None,
+                    },
+                    ..
+                }
+        ),
+        Verdict::Batch { .. } | Verdict::Text { .. } | Verdict::Memory => false,
     }
 }
 
@@ -400,11 +438,33 @@ fn hint_for_open<R, W>(alloc: Global, run: &Finished<'_, R, W>) -> Hint {
     let Some(options) = options_of(run.verdict) else {
         return Ok(None);
     };
+    if asks_for_replicas(run.verdict) {
+        return hint_for_open_accept(alloc, options.simulations(), MOST_SIMULATIONS).map(Some);
+    }
+    if of_workflow(alloc, run)? {
+        return hint_for_open_workflow(alloc, options.simulations(), MOST_SIMULATIONS).map(Some);
+    }
     let hint = match options.seconds() {
         Some(seconds) if run.is_stopped => hint_for_seconds(alloc, seconds, MOST_SECONDS)?,
         _ => hint_for_search(alloc, options, names_bounds(run.verdict))?,
     };
     Ok(Some(hint))
+}
+
+/// Whether a workflow was asked about.
+fn of_workflow<R, W>(alloc: Global, run: &Finished<'_, R, W>) -> Result<bool, AllocError> {
+    if !takes_workflow(run.verdict) || !run.reader.is_whole() {
+        return Ok(false);
+    }
+    tells_workflow(alloc, run.reader.text())
+}
+
+/// Whether a text is that of a workflow.
+fn tells_workflow(alloc: Global, text: &[u8]) -> Result<bool, AllocError> {
+    match is_workflow(alloc, text) {
+        Ok(is_workflow) => Ok(is_workflow),
+        Err(_) => Err(AllocError),
+    }
 }
 
 /// How many steps may be taken to check a certificate, where the command line asks for that.
@@ -445,6 +505,19 @@ fn asks_for_outages(verdict: &Verdict) -> bool {
                 ..
             },
         ) => outage.is_some(),
+        _ => false,
+    }
+}
+
+/// Whether the command line asks for the greatest latency where replicas have to answer.
+fn asks_for_replicas(verdict: &Verdict) -> bool {
+    match task_of(verdict) {
+        Some(
+            Task::Search {
+                what: SearchTask::Latency { accept, .. },
+                ..
+            },
+        ) => accept.is_some(),
         _ => false,
     }
 }
@@ -560,6 +633,13 @@ fn hint_for_kind_of_answer(alloc: Global, verdict: &Verdict, end: &End) -> Hint 
 /// The hint for what a search found.
 fn hint_for_found(alloc: Global, what: &SearchTask, end: &End) -> Hint {
     match (what, end.done) {
+        (
+            SearchTask::Latency {
+                accept: Some(_),
+                ..
+            },
+            _,
+        ) => Ok(None),
         (SearchTask::Latency { .. }, Done::Beyond) => hint_for_late_message(alloc).map(Some),
         (SearchTask::Analyse, Done::Beyond) => hint_for_late_certificate(alloc).map(Some),
         (SearchTask::Order { .. } | SearchTask::Listing { .. }, _) => {

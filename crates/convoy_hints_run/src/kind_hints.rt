@@ -48,13 +48,13 @@ fn hint_for_limit(alloc: Global, limit: KindsLimit) -> Result<String, AllocError
 pub(crate) fn hint_for_shared(alloc: Global, fault: ScenarioFault) -> Hint {
     match fault {
         ScenarioFault::UnknownGroup => format!(in alloc;
-            "hint: 'from' and 'to' of a [[kind]], and the ends of a link, name groups that 'groups' has\n"
+            "hint: 'to' of a [[kind]] and of a link names groups that 'groups' has, and 'from' such groups or places that 'places' has\n"
         ).map(Some),
         ScenarioFault::NoRange => format!(in alloc;
-            "hint: in real time a range is written between any two groups, and from clients where a [[kind]] has no 'from': write links, or 'least' beside 'delay'\n"
+            "hint: in real time a range is written between any two groups, and from clients, wherever they send a [[kind]]: write links, or 'least' beside 'delay'\n"
         ).map(Some),
         ScenarioFault::DoubleName => format!(in alloc;
-            "hint: names of groups differ, and so do those of tables [[kind]]\n"
+            "hint: names of groups and places differ, and so do those of tables [[kind]]\n"
         ).map(Some),
         _ => Ok(None),
     }

@@ -12,3 +12,4 @@ mod kind_hints;
 mod sweep_hints;
 mod table_hints;
 mod trace_hints;
+mod workflow_hints;

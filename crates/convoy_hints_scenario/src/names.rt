@@ -5,7 +5,11 @@ use std::alloc::{AllocError, Global};
 /// Which name is none, and why.
 pub(crate) fn hint_for_bad_name(alloc: Global, sketch: &Sketch<'_>) -> Hint {
     let groups = words_of(alloc, &sketch.draft.groups)?;
-    match hint_for_bad_place(alloc, "group", &groups)? {
+    if let Some(hint) = hint_for_bad_place(alloc, "group", &groups)? {
+        return Ok(Some(hint));
+    }
+    let places = words_of(alloc, &sketch.draft.places)?;
+    match hint_for_bad_place(alloc, "place", &places)? {
         Some(hint) => Ok(Some(hint)),
         None => hint_for_bad_message(alloc, sketch),
     }
@@ -25,7 +29,7 @@ pub fn hint_for_bad_place(alloc: Global, kind: &str, names: &[&str]) -> Hint {
 fn hint_for_place_name(alloc: Global, kind: &str, before: usize, name: &str) -> Hint {
     let place = Ordinal(before.saturating_add(1));
     if name == "client" {
-        let advice = if kind == "group" {
+        let advice = if kind == "group" || kind == "place" {
             "a multicast without 'from' is a client's"
         } else {
             "give it another name"
@@ -80,7 +84,14 @@ fn is_name_byte(byte: u8) -> bool {
 pub(crate) fn hint_for_double_name(alloc: Global, sketch: &Sketch<'_>) -> Hint {
     let groups = words_of(alloc, &sketch.draft.groups)?;
     if let Some((first, second)) = first_double(&groups) {
-        return hint_for_double_group(alloc, &groups, first, second).map(Some);
+        return hint_for_double_group(alloc, "group", &groups, first, second).map(Some);
+    }
+    let places = words_of(alloc, &sketch.draft.places)?;
+    if let Some((first, second)) = first_double(&places) {
+        return hint_for_double_group(alloc, "place", &places, first, second).map(Some);
+    }
+    if let Some(hint) = hint_for_shared_name(alloc, &groups, &places)? {
+        return Ok(Some(hint));
     }
     match hint_for_double_message(alloc, sketch)? {
         Some(hint) => Ok(Some(hint)),
@@ -88,9 +99,23 @@ pub(crate) fn hint_for_double_name(alloc: Global, sketch: &Sketch<'_>) -> Hint {
     }
 }
 
-/// The groups at these two places have one name.
+/// Which place has the name of a group.
+fn hint_for_shared_name(alloc: Global, groups: &[&str], places: &[&str]) -> Hint {
+    for (before, name) in places.iter().enumerate() {
+        if place_of(name, groups) < groups.len() {
+            let (place, name) = (Ordinal(before.saturating_add(1)), Quoted(name));
+            return format!(in alloc;
+                "the {place} place has the name of a group, {name}: name the place of the clients otherwise"
+            ).map(Some);
+        }
+    }
+    Ok(None)
+}
+
+/// The groups, or the places, that stand there have one name.
 fn hint_for_double_group(
     alloc: Global,
+    kind: &str,
     groups: &[&str],
     first: usize,
     second: usize,
@@ -98,7 +123,7 @@ fn hint_for_double_group(
     let name = Quoted(groups.get(first).copied().unwrap_or(""));
     let first = Ordinal(first.saturating_add(1));
     let second = Ordinal(second.saturating_add(1));
-    format!(in alloc; "the {first} and the {second} group have one name, {name}")
+    format!(in alloc; "the {first} and the {second} {kind} have one name, {name}")
 }
 
 /// Which two messages have one name.

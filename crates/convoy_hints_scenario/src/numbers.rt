@@ -1,7 +1,7 @@
 use convoy_hints_sketch::{Hint, Length, Part, Sketch, shown_time, shown_written};
 use convoy_scenario::{
     DraftLink, DraftMulticast, DraftScenario, Duration, GREATEST_AT, GREATEST_DELAY, LONGEST_WAIT,
-    Limit, MOST_GROUPS, MOST_MULTICASTS, Time,
+    Limit, MOST_GROUPS, MOST_MULTICASTS, MOST_PLACES, Time,
 };
 use convoy_toml::{MOST_WRITTEN_LINKS, WrittenScenario, WrittenTime, tick_of};
 use std::alloc::{AllocError, Global};
@@ -18,6 +18,12 @@ pub(crate) fn hint_for_limit(alloc: Global, sketch: &Sketch<'_>, limit: Limit) -
             format!(in alloc; "there are {count} groups, and there may be 1 to {MOST_GROUPS}").map(
                 Some,
             )
+        }
+        Limit::Places => {
+            let count = draft.places.len();
+            format!(in alloc;
+                "there are {count} places, and there may be at most {MOST_PLACES}"
+            ).map(Some)
         }
         Limit::Multicasts => {
             let count = draft.multicasts.len();

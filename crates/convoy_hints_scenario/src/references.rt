@@ -2,11 +2,11 @@ use super::names::{first_double, names_of};
 use convoy_hints_sketch::{
     Hint, Names, Part, Quoted, Sketch, is_word_for_clients, nearest, words_of,
 };
-use convoy_scenario::{DraftLink, DraftMulticast, Name};
+use convoy_scenario::{DraftLink, DraftMulticast, DraftScenario, Name};
 use convoy_toml::ScenarioTable;
 use std::alloc::{AllocError, Global};
 
-/// A name that is that of no group, and where it stands.
+/// A name that is that of no group, nor of a place where it is that of a sender, and where it stands.
 #[derive(Clone, Copy, Drop)]
 struct Stray<'a> {
     name: &'a str,
@@ -14,7 +14,7 @@ struct Stray<'a> {
     part: Part<'a>,
 }
 
-/// Which name is that of no group, and where it stands.
+/// Which name is that of no group, nor of a place where it is that of a sender, and where it stands.
 pub(crate) fn hint_for_unknown_group(alloc: Global, sketch: &Sketch<'_>) -> Hint {
     let stray = stray_in_multicasts(sketch)
         .or(stray_in_target(sketch))
@@ -26,7 +26,8 @@ pub(crate) fn hint_for_unknown_group(alloc: Global, sketch: &Sketch<'_>) -> Hint
     if sketch.is_target_asked && stray.part.table == ScenarioTable::Target {
         return hint_for_no_such(alloc, BY_OPTION, "group", stray.name, &groups).map(Some);
     }
-    hint_for_stray(alloc, stray, &groups).map(Some)
+    let places = words_of(alloc, &sketch.draft.places)?;
+    hint_for_stray(alloc, stray, &groups, &places).map(Some)
 }
 
 /// Where the target is named, if a command line names it.
@@ -35,25 +36,25 @@ const BY_OPTION: &str = "'--target'";
 /// The first name in a multicast that is that of no group.
 fn stray_in_multicasts<'s>(sketch: &'s Sketch<'_>) -> Option<Stray<'s>> {
     for (multicast, part) in sketch.draft.multicasts.iter().zip(&sketch.multicasts) {
-        if let Some(stray) = stray_in_multicast(multicast, *part, &sketch.draft.groups) {
+        if let Some(stray) = stray_in_multicast(multicast, *part, &sketch.draft) {
             return Some(stray);
         }
     }
     None
 }
 
-/// The name in a multicast that is none of the groups'.
+/// The name in a multicast that is none of the groups', nor of the places' where it is that of the sender.
 fn stray_in_multicast<'s>(
     multicast: &'s DraftMulticast,
     part: Part<'s>,
-    groups: &[Name],
+    draft: &DraftScenario,
 ) -> Option<Stray<'s>> {
-    if let Some(name) = unknown_sender(&multicast.sender, groups) {
+    if let Some(name) = unknown_sender(&multicast.sender, draft) {
         let key = "from";
         return Some(Stray { name, key, part });
     }
     for name in &multicast.to {
-        if let Some(name) = unknown(name, groups) {
+        if let Some(name) = unknown(name, &draft.groups) {
             let key = "to";
             return Some(Stray { name, key, part });
         }
@@ -72,28 +73,33 @@ fn stray_in_target<'s>(sketch: &'s Sketch<'_>) -> Option<Stray<'s>> {
 /// The first name in a link that is that of no group.
 fn stray_in_links<'s>(sketch: &'s Sketch<'_>) -> Option<Stray<'s>> {
     for (link, part) in sketch.draft.links.iter().zip(&sketch.links) {
-        if let Some(stray) = stray_in_link(link, *part, &sketch.draft.groups) {
+        if let Some(stray) = stray_in_link(link, *part, &sketch.draft) {
             return Some(stray);
         }
     }
     None
 }
 
-/// The name in a link that is none of the groups'.
-fn stray_in_link<'s>(link: &'s DraftLink, part: Part<'s>, groups: &[Name]) -> Option<Stray<'s>> {
-    if let Some(name) = unknown_sender(&link.sender, groups) {
+/// The name in a link that is none of the groups', nor of the places' where it is that of the sender.
+fn stray_in_link<'s>(
+    link: &'s DraftLink,
+    part: Part<'s>,
+    draft: &DraftScenario,
+) -> Option<Stray<'s>> {
+    if let Some(name) = unknown_sender(&link.sender, draft) {
         let key = "from";
         return Some(Stray { name, key, part });
     }
-    let name = unknown(&link.to, groups)?;
+    let name = unknown(&link.to, &draft.groups)?;
     let key = "to";
     Some(Stray { name, key, part })
 }
 
-/// The name of a sender, where it is none of these.
-fn unknown_sender<'s>(sender: &'s Option<Name>, names: &[Name]) -> Option<&'s str> {
+/// The name of a sender, where it is that of no group and of no place.
+fn unknown_sender<'s>(sender: &'s Option<Name>, draft: &DraftScenario) -> Option<&'s str> {
     match sender {
-        Some(name) => unknown(name, names),
+        Some(name) if name.is_among(&draft.places) => None,
+        Some(name) => unknown(name, &draft.groups),
         None => None,
     }
 }
@@ -107,8 +113,13 @@ fn unknown<'s>(name: &'s Name, names: &[Name]) -> Option<&'s str> {
     }
 }
 
-/// A name is that of none of the groups.
-fn hint_for_stray(alloc: Global, stray: Stray<'_>, groups: &[&str]) -> Result<String, AllocError> {
+/// A name is that of none of the groups, nor of the places where it is that of a sender.
+fn hint_for_stray(
+    alloc: Global,
+    stray: Stray<'_>,
+    groups: &[&str],
+    places: &[&str],
+) -> Result<String, AllocError> {
     let Stray { name, key, part } = stray;
     if is_word_for_clients(name) && key == "from" {
         let shown = Quoted(name);
@@ -116,8 +127,31 @@ fn hint_for_stray(alloc: Global, stray: Stray<'_>, groups: &[&str]) -> Result<St
             "'{key}' in {part} is {shown}, which is no group: leave the key '{key}' out where clients send"
         );
     }
+    if places.iter().any(|place| *place == name) {
+        let shown = Quoted(name);
+        return format!(in alloc;
+            "'{key}' in {part} names {shown}, which is a place of clients, and nothing is sent to clients: name a group"
+        );
+    }
     let place = format!(in alloc; "'{key}' in {part}")?;
+    if key == "from" && !places.is_empty() {
+        let senders = senders_of(alloc, groups, places)?;
+        return hint_for_no_such(alloc, place.as_str(), "sender", name, &senders);
+    }
     hint_for_no_such(alloc, place.as_str(), "group", name, groups)
+}
+
+/// The names of all that send by name: of the groups, and of the places of clients.
+fn senders_of<'a>(
+    alloc: Global,
+    groups: &[&'a str],
+    places: &[&'a str],
+) -> Result<Vec<&'a str>, AllocError> {
+    let mut senders = Vec::new(alloc);
+    for name in groups.iter().chain(places) {
+        senders.push(*name)?;
+    }
+    Ok(senders)
 }
 
 /// A name at that place is that of nothing of that kind, of which these are the names: the one that it is near to, or

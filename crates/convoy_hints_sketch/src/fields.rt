@@ -37,6 +37,7 @@ pub(crate) fn field_at(table: ScenarioTable, key: Key) -> Field {
         Key::Tick => (Kind::Text, "tick = \"50 us\""),
         Key::Delay => (Kind::Time, "delay = 3"),
         Key::Groups => (Kind::Texts, "groups = [\"a\", \"b\"]"),
+        Key::Places => (Kind::Texts, "places = [\"eu\", \"us\"]"),
         Key::Multicast => (Kind::Tables, "[[multicast]]"),
         Key::Name if is_in_group => (Kind::Names, "name = \"a\""),
         Key::Name => (Kind::Text, "name = \"x\""),
@@ -128,12 +129,13 @@ pub(crate) fn words_beside(table: ScenarioTable) -> &'static [&'static str] {
 }
 
 /// The keys above the first header.
-pub(crate) const TOP_KEYS: [Key; 11] = [
+pub(crate) const TOP_KEYS: [Key; 12] = [
     Key::Time,
     Key::Tick,
     Key::Delay,
     Key::Least,
     Key::Groups,
+    Key::Places,
     Key::Multicast,
     Key::Target,
     Key::Link,

@@ -17,7 +17,7 @@ const ENDS: &str = "write 'from' and 'to', and 'both = true' where the range is 
 
 /// What to write in place of names of clients.
 const CLIENTS: &str =
-    "clients have no names and are one place: leave 'from' out where they send; a group that nothing is sent to may be another place of clients";
+    "clients have no names: leave 'from' out where they send; where they are at several places, name these as 'places = [\"eu\", \"us\"]', and write one of them in 'from'";
 
 /// What to write in place of a word for a deadline.
 const DEADLINE: &str =

@@ -27,7 +27,7 @@ first_view store = record { store = store; seen = store.first.latency; pairs = s
 abbrev pub no_store : Store
 no_store = record {
   records = record { tag = []; buckets = [] };
-  scenario = record { marker = record {}; value = record { time = Ticks; tick = None; delay = 0; groups = []; links = []; multicasts = []; target_message = 0; target_group = 0 } };
+  scenario = record { marker = record {}; value = record { time = Ticks; tick = None; delay = 0; groups = []; places = []; links = []; multicasts = []; target_message = 0; target_group = 0 } };
   first = record { latency = 0; place = 0 };
 }
 

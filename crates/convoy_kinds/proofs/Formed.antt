@@ -3,7 +3,7 @@ use Rattle.std.proofs.Common.{All, ◌≡◌, ℕ, ◌+◌, ◌<◌, ◌≤◌, 
 use Rattle.std.specs.List.{AllByRecursion, list_all, range_with_len}
 use Rattle.std.specs.List.Sorted.{IsStrictlyIncreasing}
 use Rattle.std.specs.Str.{bytes_eq}
-use Rattle.std.proofs.lemmas.Bool.{and_parts, eqb-true, false≢true}
+use Rattle.std.proofs.lemmas.Bool.{and_parts, cases_Bool, eqb-true, false≢true}
 use Rattle.std.proofs.lemmas.List.{length-map}
 use Rattle.std.proofs.lemmas.List.Elements.{All-filter}
 use Rattle.std.proofs.lemmas.List.FromFn.{get_or-range_with_len, length-range_with_len}
@@ -11,12 +11,11 @@ use Rattle.std.proofs.lemmas.List.Kept.{IsStrictlyIncreasing-filter}
 use Rattle.std.proofs.lemmas.List.Sums.{AllPass-from_list_all}
 use Rattle.std.proofs.lemmas.Slice.Eq.{bytes_eq-Decides}
 use Rattle.std.proofs.lemmas.Bool.Decides.{nat_tests}
-use Rattle.convoy_draft.specs.Checks.{is_among, is_count, is_within, ticks}
+use Rattle.convoy_draft.specs.Checks.{is_among, is_count, is_known_sender, is_within, ticks}
 use Rattle.convoy_draft.specs.declared.duration.TimeUnit.{TimeUnit}
 use Rattle.convoy_draft.specs.Names.{is_name}
 use Rattle.convoy_scenario.specs.declared.sender.Sender.{Sender}
-use Rattle.convoy_scenario.specs.declared.sender.Sender.TheVariants.{Group}
-use Rattle.convoy_scenario.specs.Numbering.{numbers_of, place}
+use Rattle.convoy_scenario.specs.Numbering.{numbers_of, place, sender_of}
 use Rattle.convoy_scenario.specs.Scenario.{Scenario}
 use Rattle.convoy_scenario.specs.WellFormed.{IsScenario, IsSender}
 use Rattle.convoy_scenario.proofs.NumberLemmas.{numbers_below, numbers_rise, numbers_some}
@@ -24,7 +23,7 @@ use Rattle.convoy_scenario.proofs.NumberedLemmas.{groups_distinct}
 use Rattle.convoy_scenario.proofs.PlaceLemmas.{name_at_place, place_within}
 use Rattle.convoy_sim.proofs.Membership.{IsIn, in_append_cases, in_of_filter, in_of_flat_map, in_of_map}
 use Rattle.convoy_kinds.specs.declared.fault.KindsFault.{KindsFault}
-use Rattle.convoy_kinds.specs.Checks.{KindsCheck, are_known, are_sizes, are_some, checks, judge, knows}
+use Rattle.convoy_kinds.specs.Checks.{KindsCheck, are_known, are_senders, are_sizes, are_some, checks, judge, knows}
 use Rattle.convoy_kinds.specs.Kinds.{IsKind, IsKindsIfCounted, Kind}
 use Rattle.convoy_kinds.specs.Numbering.{is_in_set, kinds_by, kinds_from, senders_in, set_of, sets_in, sets_of_size, table_names}
 use Rattle.convoy_kinds.specs.Shape.{WrittenKind}
@@ -101,18 +100,29 @@ named_is_set groups (name ∷ named) known some =
       known = numbers_below groups (name ∷ named);
     }
 
--- where groups send, they are groups
-sender_known : (groups : List (List ℕ)) (senders : Option (List (List ℕ))) (sender : Sender) → are_known groups senders ≡ true → IsIn sender (senders_in groups senders) → IsSender (length groups) sender
-sender_known groups None sender known (inl e) = subst (IsSender (length groups)) e tt
-sender_known groups None sender known (inr i) = absurd i
-sender_known groups (Some names) sender known i =
-    let from = in_of_map (λ (name : List ℕ). Group (place name groups)) sender names i in
-    subst (IsSender (length groups)) from.2 (place_within (bytes_eq from.0) groups (passed (λ name. is_among name groups) from.0 names from.1 known))
+-- what has a name that is known sends
+named_sender : (groups places : List (List ℕ)) (name : List ℕ) → is_known_sender groups places (Some name) ≡ true → IsSender (length groups) (length places) (sender_of groups places (Some name))
+named_sender groups places name known = elim (cases_Bool (is_among name groups)) [
+  | inl group ↦ rw group (place_within (bytes_eq name) groups group)
+  | inr client ↦
+      let there : is_among name places ≡ true = rw client at known in
+      let below = place_within (bytes_eq name) places there in
+      rw client (omega (arith, below))
+]
+
+sender_known : (groups places : List (List ℕ)) (senders : Option (List (List ℕ))) (sender : Sender) → are_senders groups places senders ≡ true → IsIn sender (senders_in groups places senders)
+    → IsSender (length groups) (length places) sender
+sender_known groups places None sender known (inl e) = subst (IsSender (length groups) (length places)) e (omega arith)
+sender_known groups places None sender known (inr i) = absurd i
+sender_known groups places (Some names) sender known i =
+    let from = in_of_map (λ (name : List ℕ). sender_of groups places (Some name)) sender names i in
+    subst (IsSender (length groups) (length places)) from.2
+    (named_sender groups places from.0 (passed (λ name. is_known_sender groups places (Some name)) from.0 names from.1 known))
 
 -- what the rules say of one table
-record Keeps (groups : List (List ℕ)) (table : WrittenKind) : Type 0 where
+record Keeps (groups places : List (List ℕ)) (table : WrittenKind) : Type 0 where
   sizes : are_sizes (length groups) table.sizes ≡ true
-  known : knows groups table ≡ true
+  known : knows groups places table ≡ true
   some : are_some table.to ≡ true
 
 sets_are_sets : (groups : List (List ℕ)) (to : Option (List (List ℕ))) (sizes : Option (List ℤ)) (name : List ℕ) (senders : Option (List (List ℕ))) (set : List ℕ) → length groups ≤ 8
@@ -127,29 +137,37 @@ sets_are_sets groups None (Some sizes) name senders set few sized known some i =
     sized_is_set (length groups) (ticks 8 from.0) set (ticks_low (length groups) from.0 few (passed (λ size. is_within 1 (length groups) size) from.0 sizes from.1 within)) from.2
 
 -- so the kinds of a table are kinds
-kinds_of_table : (count t : ℕ) (groups : List (List ℕ)) (table : WrittenKind) → t < count → length groups ≤ 8 → Keeps groups table → (kind : Kind)
-    → IsIn kind (kinds_by t (sets_in groups table) (senders_in groups table.senders)) → IsKind count (length groups) kind
-kinds_of_table count t groups table below few keeps kind i =
-    let of_sender = in_of_flat_map (λ (sender : Sender). map (λ set. let k : Kind = record { table = t; sender = sender; destinations = set } in k) (sets_in groups table)) kind (senders_in groups table.senders) i in
+kinds_of_table : (count t : ℕ) (groups places : List (List ℕ)) (table : WrittenKind) → t < count → length groups ≤ 8 → Keeps groups places table → (kind : Kind)
+    → IsIn kind (kinds_by t (sets_in groups table) (senders_in groups places table.senders)) → IsKind count (length groups) (length places) kind
+kinds_of_table count t groups places table below few keeps kind i =
+    let of_sender = in_of_flat_map (λ (sender : Sender). map (λ set. let k : Kind = record { table = t; sender = sender; destinations = set } in k) (sets_in groups table)) kind (senders_in groups places table.senders) i in
     let of_set = in_of_map (λ (set : List ℕ). let k : Kind = record { table = t; sender = of_sender.0; destinations = set } in k) kind (sets_in groups table) of_sender.2 in
-    let parts = and_parts (are_known groups table.senders) (are_known groups table.to) keeps.known in
-    let sent = sender_known groups table.senders of_sender.0 parts.0 of_sender.1 in
+    let parts = and_parts (are_senders groups places table.senders) (are_known groups table.to) keeps.known in
+    let sent = sender_known groups places table.senders of_sender.0 parts.0 of_sender.1 in
     let set = sets_are_sets groups table.to table.sizes table.name table.senders of_set.0 few keeps.sizes parts.1 keeps.some of_set.1 in
-    subst (IsKind count (length groups)) of_set.2 (record { table = below; sender = sent; destinations = set.some; ascending = set.ascending; known = set.known })
+    subst (IsKind count (length groups) (length places)) of_set.2 (record { table = below; sender = sent; destinations = set.some; ascending = set.ascending; known = set.known })
 
-kinds_of_all : (count t : ℕ) (groups : List (List ℕ)) (tables : List WrittenKind) → t + length tables ≤ count → length groups ≤ 8
-    → ((table : WrittenKind) → IsIn table tables → Keeps groups table) → (kind : Kind) → IsIn kind (kinds_from t groups tables) → IsKind count (length groups) kind
-kinds_of_all count t groups [] most few keep kind i = absurd i
-kinds_of_all count t groups (table ∷ tables) most few keep kind i =
-    elim (in_append_cases kind (kinds_by t (sets_in groups table) (senders_in groups table.senders)) (kinds_from (t + 1) groups tables) i) [
-      | inl here ↦ kinds_of_table count t groups table (omega arith) few (keep table (inl refl)) kind here
-      | inr later ↦ kinds_of_all count (t + 1) groups tables (omega arith) few (λ other j. keep other (inr j)) kind later
+kinds_of_all : (count t : ℕ) (groups places : List (List ℕ)) (tables : List WrittenKind) → t + length tables ≤ count → length groups ≤ 8
+    → ((table : WrittenKind) → IsIn table tables → Keeps groups places table) → (kind : Kind) → IsIn kind (kinds_from t groups places tables) → IsKind count (length groups) (length places) kind
+kinds_of_all count t groups places [] most few keep kind i = absurd i
+kinds_of_all count t groups places (table ∷ tables) most few keep kind i =
+    elim (in_append_cases kind (kinds_by t (sets_in groups table) (senders_in groups places table.senders)) (kinds_from (t + 1) groups places tables) i) [
+      | inl here ↦ kinds_of_table count t groups places table (omega arith) few (keep table (inl refl)) kind here
+      | inr later ↦ kinds_of_all count (t + 1) groups places tables (omega arith) few (λ other j. keep other (inr j)) kind later
     ]
 
-pub formed : (setting : Scenario) (tables : List WrittenKind) → IsScenario setting → judge (checks setting.groups (table_names tables) tables) ≡ Ok tt
-    → (unit : Option TimeUnit) → IsKindsIfCounted (record { setting = setting; unit = unit; tables = table_names tables; kinds = kinds_from 0 setting.groups tables })
+-- the rules for the names as they are asked hold for the same names
+pub kept_by : (groups places names setting_groups setting_places table_names : List (List ℕ)) (tables : List WrittenKind) → groups ≡ setting_groups → places ≡ setting_places → names ≡ table_names
+    → judge (checks groups places names tables) ≡ Ok tt → judge (checks setting_groups setting_places table_names tables) ≡ Ok tt
+kept_by groups places names setting_groups setting_places table_names tables same too alike kept =
+    subst (λ (gs : List (List ℕ)). judge (checks gs setting_places table_names tables) ≡ Ok tt) same
+    (subst (λ (ps : List (List ℕ)). judge (checks groups ps table_names tables) ≡ Ok tt) too
+    (subst (λ (ns : List (List ℕ)). judge (checks groups places ns tables) ≡ Ok tt) alike kept))
+
+pub formed : (setting : Scenario) (tables : List WrittenKind) → IsScenario setting → judge (checks setting.groups setting.places (table_names tables) tables) ≡ Ok tt
+    → (unit : Option TimeUnit) → IsKindsIfCounted (record { setting = setting; unit = unit; tables = table_names tables; kinds = kinds_from 0 setting.groups setting.places tables })
 formed setting tables well kept unit some few =
-    let rules = all_hold (checks setting.groups (table_names tables) tables) kept in
+    let rules = all_hold (checks setting.groups setting.places (table_names tables) tables) kept in
     let count = and_parts (nat_le 1 (length tables)) _ rules.0 in
     let same = length-map tables (λ (table : WrittenKind). table.name) in
     let low = leb-true _ _ count.0 in
@@ -163,10 +181,10 @@ formed setting tables well kept unit some few =
       kinds_low = some;
       kinds_high = few;
       known = all_from_in _ _
-          (kinds_of_all (length (table_names tables)) 0 setting.groups tables (omega arith) well.groups_high
+          (kinds_of_all (length (table_names tables)) 0 setting.groups setting.places tables (omega arith) well.groups_high
           (λ table i. record {
             sizes = passed (λ (t : WrittenKind). are_sizes (length setting.groups) t.sizes) table tables i rules.1.0;
-            known = passed (knows setting.groups) table tables i rules.1.1.1.1.0;
+            known = passed (knows setting.groups setting.places) table tables i rules.1.1.1.1.0;
             some = passed (λ (t : WrittenKind). are_some t.to) table tables i rules.1.1.1.1.1.0;
           }));
     }

@@ -21,15 +21,15 @@ filter_map_more p f n =
     ∙ filter-append p (map f (range_with_len 0 n)) (f n ∷ [])
 
 -- the kinds of one table more
-pub kinds_more : (groups : List (List ℕ)) (tables : List WrittenKind) (done now all : List Kind) (t : ℕ) (table : WrittenKind)
-    → t < length tables → table ≡ get_or tables t table → now ≡ done ++ kinds_by t (sets_in groups table) (senders_in groups table.senders)
-    → done ++ kinds_from t groups (drop t tables) ≡ all → now ++ kinds_from (t + 1) groups (drop (t + 1) tables) ≡ all
-kinds_more groups tables done now all t table below is has so_far =
-    let of : WrittenKind → List Kind = λ w. kinds_by t (sets_in groups w) (senders_in groups w.senders) in
-    ap (λ ks. ks ++ kinds_from (t + 1) groups (drop (t + 1) tables)) has
-    ∙ append_assoc done (of table) (kinds_from (t + 1) groups (drop (t + 1) tables))
-    ∙ ap (λ w. done ++ (of w ++ kinds_from (t + 1) groups (drop (t + 1) tables))) is
-    ∙ ap (λ ks. done ++ ks) (sym (at_drop_more (kinds_from t groups) tables t table below))
+pub kinds_more : (groups places : List (List ℕ)) (tables : List WrittenKind) (done now all : List Kind) (t : ℕ) (table : WrittenKind)
+    → t < length tables → table ≡ get_or tables t table → now ≡ done ++ kinds_by t (sets_in groups table) (senders_in groups places table.senders)
+    → done ++ kinds_from t groups places (drop t tables) ≡ all → now ++ kinds_from (t + 1) groups places (drop (t + 1) tables) ≡ all
+kinds_more groups places tables done now all t table below is has so_far =
+    let of : WrittenKind → List Kind = λ w. kinds_by t (sets_in groups w) (senders_in groups places w.senders) in
+    ap (λ ks. ks ++ kinds_from (t + 1) groups places (drop (t + 1) tables)) has
+    ∙ append_assoc done (of table) (kinds_from (t + 1) groups places (drop (t + 1) tables))
+    ∙ ap (λ w. done ++ (of w ++ kinds_from (t + 1) groups places (drop (t + 1) tables))) is
+    ∙ ap (λ ks. done ++ ks) (sym (at_drop_more (kinds_from t groups places) tables t table below))
     ∙ so_far
 
 -- the set of the next number is kept where it has the size

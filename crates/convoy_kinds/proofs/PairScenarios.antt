@@ -41,13 +41,13 @@ second_differs first second = elim (cases_Bool (bytes_eq first second)) [
 ]
 
 module _ (kinds : Kinds) (well : IsKinds kinds) where
-  kind_is : (k : ℕ) → k < length kinds.kinds → IsKind (length kinds.tables) (length kinds.setting.groups) (kind_at kinds k)
+  kind_is : (k : ℕ) → k < length kinds.kinds → IsKind (length kinds.tables) (length kinds.setting.groups) (length kinds.setting.places) (kind_at kinds k)
   kind_is k l = well.known k no_kind l
 
   name_is : (k : ℕ) → k < length kinds.kinds → is_name (kind_name kinds k) ≡ true
   name_is k l = well.names (kind_at kinds k).table [] (kind_is k l).table
 
-  formed : (k : ℕ) (name : List ℕ) → k < length kinds.kinds → is_name name ≡ true → IsMulticast (length kinds.setting.groups) (named name (kind_at kinds k))
+  formed : (k : ℕ) (name : List ℕ) → k < length kinds.kinds → is_name name ≡ true → IsMulticast (length kinds.setting.groups) (length kinds.setting.places) (named name (kind_at kinds k))
   formed k name l good =
       let kind = kind_is k l in
       record {
@@ -74,7 +74,7 @@ module _ (kinds : Kinds) (well : IsKinds kinds) where
     few true = omega arith
     few false = omega arith
 
-    all_formed : (b : Bool) → All (IsMulticast (length kinds.setting.groups)) (with_other b).multicasts
+    all_formed : (b : Bool) → All (IsMulticast (length kinds.setting.groups) (length kinds.setting.places)) (with_other b).multicasts
     all_formed b zero other within = formed k _ first_known (name_is k first_known)
     all_formed true (suc n) other within = absurd (omega arith)
     all_formed false (suc zero) other within = formed l _ second_known (second_is_name (kind_name kinds k) (kind_name kinds l) (name_is l second_known))
@@ -105,10 +105,14 @@ module _ (kinds : Kinds) (well : IsKinds kinds) where
       tick = well.setting.tick;
       groups_low = well.setting.groups_low;
       groups_high = well.setting.groups_high;
+      places_high = well.setting.places_high;
       multicasts_low = omega arith;
       multicasts_high = few b;
       group_names = well.setting.group_names;
       group_names_differ = well.setting.group_names_differ;
+      place_names = well.setting.place_names;
+      place_names_differ = well.setting.place_names_differ;
+      places_apart = well.setting.places_apart;
       message_names_differ = differ b;
       links = well.setting.links;
       ascending = well.setting.ascending;

@@ -18,15 +18,21 @@ all_of_three : sets_of_size 3 3 ≡ (0 ∷ 1 ∷ 2 ∷ []) ∷ []
 all_of_three = refl
 
 -- two or three of five groups from each of two, and one set of clients
-transfers : length (kinds_from 0 (codes "a" ∷ codes "b" ∷ codes "c" ∷ codes "d" ∷ codes "e" ∷ [])
+transfers : length (kinds_from 0 (codes "a" ∷ codes "b" ∷ codes "c" ∷ codes "d" ∷ codes "e" ∷ []) []
     (record { name = codes "transfer"; senders = Some (codes "a" ∷ codes "b" ∷ []); to = None; sizes = Some (pos 2 ∷ pos 3 ∷ []) }
     ∷ record { name = codes "audit"; senders = None; to = Some (codes "c" ∷ codes "a" ∷ []); sizes = None } ∷ [])) ≡ 41
 transfers = refl
 
-audit : kinds_from 1 (codes "a" ∷ codes "b" ∷ codes "c" ∷ [])
+audit : kinds_from 1 (codes "a" ∷ codes "b" ∷ codes "c" ∷ []) []
     (record { name = codes "audit"; senders = None; to = Some (codes "c" ∷ codes "a" ∷ []); sizes = None } ∷ [])
-    ≡ record { table = 1; sender = Client; destinations = 0 ∷ 2 ∷ [] } ∷ []
+    ≡ record { table = 1; sender = Client 0; destinations = 0 ∷ 2 ∷ [] } ∷ []
 audit = refl
+
+-- a group and clients at a place
+orders : kinds_from 0 (codes "a" ∷ codes "b" ∷ []) (codes "eu" ∷ codes "us" ∷ [])
+    (record { name = codes "order"; senders = Some (codes "b" ∷ codes "us" ∷ []); to = Some (codes "a" ∷ []); sizes = None } ∷ [])
+    ≡ record { table = 0; sender = Group 1; destinations = 0 ∷ [] } ∷ record { table = 0; sender = Client 2; destinations = 0 ∷ [] } ∷ []
+orders = refl
 
 -- sizes ascend, and none is above the number of groups
 ascending : are_sizes 5 (Some (pos 2 ∷ pos 3 ∷ [])) ≡ true
@@ -57,8 +63,8 @@ kinds = record {
   setting = base_with 3 6;
   unit = None;
   tables = codes "x" ∷ codes "t" ∷ codes "y" ∷ [];
-  kinds = record { table = 0; sender = Client; destinations = 1 ∷ [] }
-      ∷ record { table = 1; sender = Client; destinations = 0 ∷ 1 ∷ [] }
+  kinds = record { table = 0; sender = Client 0; destinations = 1 ∷ [] }
+      ∷ record { table = 1; sender = Client 0; destinations = 0 ∷ 1 ∷ [] }
       ∷ record { table = 2; sender = Group 0; destinations = 0 ∷ 1 ∷ [] } ∷ [];
 }
 

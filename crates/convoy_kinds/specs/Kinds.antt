@@ -17,7 +17,7 @@ pub record Kind : Type 0 where
   pub sender : Sender
   pub destinations : List ℕ
 
--- kinds of messages: a scenario that has the time, the ticks, D, the groups and the links that they share, and the unit in which D is written, where it is a duration; the names of their tables; and the kinds
+-- kinds of messages: a scenario that has the time, the ticks, D, the groups, the places of clients and the links that they share, and the unit in which D is written, where it is a duration; the names of their tables; and the kinds
 pub record Kinds : Type 0 where
   pub setting : Scenario
   pub unit : Option TimeUnit
@@ -26,7 +26,7 @@ pub record Kinds : Type 0 where
 
 -- what stands for a kind past the last one: it goes to no group
 abbrev pub no_kind : Kind
-no_kind = record { table = 0; sender = Client; destinations = [] }
+no_kind = record { table = 0; sender = Client 0; destinations = [] }
 
 -- the kind of that number
 abbrev pub kind_at : Kinds → ℕ → Kind
@@ -44,10 +44,10 @@ named name kind = record { name = name; sender = kind.sender; destinations = kin
 abbrev pub all_kinds : Kinds → Scenario
 all_kinds kinds = record kinds.setting { multicasts = map (named []) kinds.kinds; target_message = 0; target_group = 0 }
 
--- a kind of one of so many tables, among so many groups: it goes to one or more of them, each once, in the order of their numbers
-pub record IsKind (tables groups : ℕ) (kind : Kind) : Type 0 where
+-- a kind of one of so many tables, among so many groups and places: it goes to one or more of them, each once, in the order of their numbers
+pub record IsKind (tables groups places : ℕ) (kind : Kind) : Type 0 where
   pub table : kind.table < tables
-  pub sender : IsSender groups kind.sender
+  pub sender : IsSender groups places kind.sender
   pub destinations : 0 < length kind.destinations
   pub ascending : IsStrictlyIncreasing kind.destinations
   pub known : All (λ g. g < groups) kind.destinations
@@ -61,7 +61,7 @@ pub record IsKinds (kinds : Kinds) : Type 0 where
   pub names_differ : IsDistinct bytes_eq kinds.tables
   pub kinds_low : 1 ≤ length kinds.kinds
   pub kinds_high : length kinds.kinds ≤ MOST_KINDS
-  pub known : All (IsKind (length kinds.tables) (length kinds.setting.groups)) kinds.kinds
+  pub known : All (IsKind (length kinds.tables) (length kinds.setting.groups) (length kinds.setting.places)) kinds.kinds
 
 -- that holds of them if there are as many as there may be
 abbrev pub IsKindsIfCounted : Kinds → Type 0

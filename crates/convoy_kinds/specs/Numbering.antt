@@ -4,8 +4,8 @@ use Rattle.std.specs.List.{range_with_len}
 use Rattle.convoy_draft.specs.declared.limits.TheConstants.{MOST_GROUPS}
 use Rattle.convoy_draft.specs.Checks.{ticks}
 use Rattle.convoy_scenario.specs.declared.sender.Sender.{Sender}
-use Rattle.convoy_scenario.specs.declared.sender.Sender.TheVariants.{Client, Group}
-use Rattle.convoy_scenario.specs.Numbering.{numbers_of, place}
+use Rattle.convoy_scenario.specs.declared.sender.Sender.TheVariants.{Client}
+use Rattle.convoy_scenario.specs.Numbering.{numbers_of, sender_of}
 use Rattle.convoy_kinds.specs.Kinds.{Kind}
 use Rattle.convoy_kinds.specs.Shape.{WrittenKind}
 
@@ -32,19 +32,19 @@ sets_in groups table = by_names table.to where
   by_names None = by_sizes table.sizes
   by_names (Some names) = numbers_of groups names ∷ []
 
--- who sends them
-abbrev pub senders_in : List (List ℕ) → Option (List (List ℕ)) → List Sender
-senders_in groups None = Client ∷ []
-senders_in groups (Some names) = map (λ name. Group (place name groups)) names
+-- who sends them: clients at no named place, or the groups and the places that are named
+abbrev pub senders_in : List (List ℕ) → List (List ℕ) → Option (List (List ℕ)) → List Sender
+senders_in groups places None = Client 0 ∷ []
+senders_in groups places (Some names) = map (λ name. sender_of groups places (Some name)) names
 
 -- the kinds of a table by its senders: one for each sender and each set
 abbrev pub kinds_by : ℕ → List (List ℕ) → List Sender → List Kind
 kinds_by t sets senders = flat_map (λ sender. map (λ set. record { table = t; sender = sender; destinations = set }) sets) senders
 
 -- the kinds of the tables, of which the first has number t
-abbrev pub kinds_from : ℕ → List (List ℕ) → List WrittenKind → List Kind
-kinds_from t groups [] = []
-kinds_from t groups (table ∷ tables) = kinds_by t (sets_in groups table) (senders_in groups table.senders) ++ kinds_from (t + 1) groups tables
+abbrev pub kinds_from : ℕ → List (List ℕ) → List (List ℕ) → List WrittenKind → List Kind
+kinds_from t groups places [] = []
+kinds_from t groups places (table ∷ tables) = kinds_by t (sets_in groups table) (senders_in groups places table.senders) ++ kinds_from (t + 1) groups places tables
 
 -- the names of the tables
 abbrev pub table_names : List WrittenKind → List (List ℕ)

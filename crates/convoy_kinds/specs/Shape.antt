@@ -19,7 +19,7 @@ use Rattle.convoy_kinds.specs.declared.fault.KindsFault.TheVariants.{NotOneTo, S
 use Rattle.convoy_kinds.specs.declared.fault.KindsKey.{KindsKey}
 use Rattle.convoy_kinds.specs.declared.fault.KindsKey.TheVariants.{Kind, ToAny}
 
--- a table of kinds as it is written: its name; the groups that send (none for clients); and the groups to all of which each message goes, or to how many each goes
+-- a table of kinds as it is written: its name; the groups and the places that send (none for clients of no named place); and the groups to all of which each message goes, or to how many each goes
 pub record WrittenKind : Type 0 where
   pub name : List ℕ
   pub senders : Option (List (List ℕ))
@@ -72,7 +72,7 @@ abbrev pub kind_words : List (List ℕ)
 kind_words = codes "name" ∷ codes "from" ∷ codes "to" ∷ codes "to_any" ∷ []
 
 abbrev pub text_words : List (List ℕ)
-text_words = codes "time" ∷ codes "tick" ∷ codes "delay" ∷ codes "least" ∷ codes "groups" ∷ codes "link" ∷ codes "group" ∷ codes "kind" ∷ []
+text_words = codes "time" ∷ codes "tick" ∷ codes "delay" ∷ codes "least" ∷ codes "groups" ∷ codes "places" ∷ codes "link" ∷ codes "group" ∷ codes "kind" ∷ []
 
 -- a table of kinds
 abbrev pub kind_of_table : Members → Result WrittenKind KindsFault

@@ -1,23 +1,24 @@
 //! The rules for tables of kinds, in the order in which they are asked.
 
-ghost use Rattle.std.specs.Prelude.{◌≡◌, ◌&&◌, length, nat_le, option_map};
+ghost use Rattle.std.specs.Prelude.{◌≡◌, ◌&&◌, length, nat_le, option_map, Some};
 ghost use Rattle.std.specs.List.{list_all};
-ghost use Rattle.convoy_draft.specs.Checks.{all_differ, is_among, is_within};
+ghost use Rattle.convoy_draft.specs.Checks.{all_differ, is_among, is_known_sender, is_within};
 ghost use Rattle.convoy_draft.specs.Names.{is_name};
-ghost use Rattle.convoy_kinds.specs.Checks.{are_known, are_sizes, are_some, ascend, checks, do_differ, is_below_first, judge, knows};
+ghost use Rattle.convoy_kinds.specs.Checks.{are_known, are_senders, are_sizes, are_some, ascend, checks, do_differ, is_below_first, judge, knows};
 
 use super::fault::{KindsFault, KindsLimit};
 use super::limits::MOST_TABLES;
 use super::written::WrittenKind;
 use convoy_scenario::{Name, ScenarioFault, is_within};
 
-/// Tells the first rule that tables break, among groups of these names, where the tables have these names.
+/// Tells the first rule that tables break, among groups and places of these names, where the tables have these names.
 pub(crate) fn check(
     groups: &[Name],
+    places: &[Name],
     names: &[Name],
     tables: &[WrittenKind],
 ) -> Result<(), KindsFault>
-    ensures { result ≡ judge (checks groups.now names.now tables.now) }
+    ensures { result ≡ judge (checks groups.now places.now names.now tables.now) }
 {
     if !is_count(tables.len(), MOST_TABLES) {
         return Err(KindsFault::OverLimit(KindsLimit::Tables));
@@ -31,7 +32,7 @@ pub(crate) fn check(
     if !all_differ(names) {
         return Err(KindsFault::Scenario(ScenarioFault::DoubleName));
     }
-    if !all_are_known(groups, tables) {
+    if !all_are_known(groups, places, tables) {
         return Err(KindsFault::Scenario(ScenarioFault::UnknownGroup));
     }
     if !all_go_somewhere(tables) {
@@ -128,16 +129,38 @@ fn all_differ(names: &[Name]) -> bool
     true
 }
 
-fn all_are_known(groups: &[Name], tables: &[WrittenKind]) -> bool
-    ensures { result ≡ list_all (knows groups.now) tables.now }
+fn all_are_known(groups: &[Name], places: &[Name], tables: &[WrittenKind]) -> bool
+    ensures { result ≡ list_all (knows groups.now places.now) tables.now }
 {
-    tables.iter().all(|table| knows(groups, table))
+    tables.iter().all(|table| knows(groups, places, table))
 }
 
-fn knows(groups: &[Name], table: &WrittenKind) -> bool
-    ensures { result ≡ knows groups.now table.now }
+fn knows(groups: &[Name], places: &[Name], table: &WrittenKind) -> bool
+    ensures { result ≡ knows groups.now places.now table.now }
 {
-    are_known(groups, &table.senders) && are_known(groups, &table.to)
+    are_senders(groups, places, &table.senders) && are_known(groups, &table.to)
+}
+
+/// Whether the names, if there are some, are among the groups and the places.
+fn are_senders(groups: &[Name], places: &[Name], names: &Option<Vec<Name>>) -> bool
+    ensures { result ≡ are_senders groups.now places.now (option_map (λ names. names.items) names.now) }
+{
+    match names {
+        Some(names) => all_send(groups, places, names),
+        None => true,
+    }
+}
+
+fn all_send(groups: &[Name], places: &[Name], names: &[Name]) -> bool
+    ensures { result ≡ list_all (λ name. is_known_sender groups.now places.now (Some name)) names.now }
+{
+    names.iter().all(|name| sends(groups, places, name))
+}
+
+fn sends(groups: &[Name], places: &[Name], name: &Name) -> bool
+    ensures { result ≡ is_known_sender groups.now places.now (Some name.now) }
+{
+    name.is_among(groups) || name.is_among(places)
 }
 
 /// Whether the names, if there are some, are among the groups.

@@ -1,10 +1,9 @@
 //! The kinds that are written, with numbers in place of names.
 
-ghost use Rattle.std.specs.Prelude.{◌≡◌, ◌≤◌, ◌<◌, ◌^◌, ◌==◌, ◌++◌, length, map, flat_map, option_map, IfOk, OnOk};
+ghost use Rattle.std.specs.Prelude.{◌≡◌, ◌≤◌, ◌<◌, ◌^◌, ◌==◌, ◌++◌, length, map, flat_map, option_map, Some, IfOk, OnOk};
 ghost use Rattle.convoy_draft.specs.Checks.{ticks};
 ghost use Rattle.std.specs.List.{range_with_len};
-ghost use Rattle.convoy_scenario.specs.Numbering.{numbers_of, place};
-ghost use Rattle.convoy_scenario.specs.declared.sender.Sender.TheVariants.{Group};
+ghost use Rattle.convoy_scenario.specs.Numbering.{numbers_of, place, sender_of};
 ghost use Rattle.convoy_kinds.specs.Numbering.{is_in_set, kinds_by, kinds_from, sets_in, senders_in, set_of, sets_of_size, table_names};
 
 use super::kinds::Kind;
@@ -48,18 +47,19 @@ pub(crate) fn table_names(alloc: Global, tables: &[WrittenKind]) -> Result<Vec<N
     Ok(names)
 }
 
-/// The kinds of all tables, among groups of these names.
+/// The kinds of all tables, among groups and places of these names.
 pub(crate) fn kinds_of(
     alloc: Global,
     groups: &[Name],
+    places: &[Name],
     tables: &[WrittenKind],
 ) -> Result<Vec<Kind>, AllocError>
     requires { length groups.now ≤ MOST_GROUPS }
-    ensures { IfOk result (λ kinds. kinds.items ≡ kinds_from 0 groups.now tables.now) }
+    ensures { IfOk result (λ kinds. kinds.items ≡ kinds_from 0 groups.now places.now tables.now) }
 {
     let mut kinds = Vec::new(alloc);
     for (number, table) in tables.iter().enumerate() {
-        push_kinds(alloc, groups, number, table, &mut kinds)?;
+        push_kinds(alloc, groups, places, number, table, &mut kinds)?;
     }
     Ok(kinds)
 }
@@ -68,16 +68,17 @@ pub(crate) fn kinds_of(
 fn push_kinds(
     alloc: Global,
     groups: &[Name],
+    places: &[Name],
     number: usize,
     table: &WrittenKind,
     kinds: &mut Vec<Kind>,
 ) -> Result<(), AllocError>
     requires { length groups.now ≤ MOST_GROUPS }
     ensures { OnOk result (kinds.new.items
-        ≡ kinds.old.items ++ kinds_by number (sets_in groups.now table.now) (senders_in groups.now table.now.senders)) }
+        ≡ kinds.old.items ++ kinds_by number (sets_in groups.now table.now) (senders_in groups.now places.now table.now.senders)) }
 {
     let sets = sets_in(alloc, groups, table)?;
-    let senders = senders_in(alloc, groups, &table.senders)?;
+    let senders = senders_in(alloc, groups, places, &table.senders)?;
     push_kinds_by(alloc, number, &sets, &senders, kinds)
 }
 
@@ -122,25 +123,43 @@ fn push_kinds_of(
 fn senders_in(
     alloc: Global,
     groups: &[Name],
+    places: &[Name],
     senders: &Option<Vec<Name>>,
 ) -> Result<Vec<Sender>, AllocError>
-    ensures { IfOk result (λ found. found.items ≡ senders_in groups.now (option_map (λ names. names.items) senders.now)) }
+    ensures { IfOk result (λ found. found.items
+        ≡ senders_in groups.now places.now (option_map (λ names. names.items) senders.now)) }
 {
     match senders {
-        Some(names) => groups_named(alloc, groups, names),
-        None => Ok(vec![in alloc; Sender::Client]?),
+        Some(names) => senders_named(alloc, groups, places, names),
+        None => Ok(vec![in alloc; Sender::Client(0)]?),
     }
 }
 
-/// The groups of these names, as senders.
-fn groups_named(alloc: Global, groups: &[Name], names: &[Name]) -> Result<Vec<Sender>, AllocError>
-    ensures { IfOk result (λ found. found.items ≡ map (λ name. Group (place name groups.now)) names.now) }
+/// The groups of these names, and clients at the places of these names, as senders.
+fn senders_named(
+    alloc: Global,
+    groups: &[Name],
+    places: &[Name],
+    names: &[Name],
+) -> Result<Vec<Sender>, AllocError>
+    ensures { IfOk result (λ found. found.items ≡ map (λ name. sender_of groups.now places.now (Some name)) names.now) }
 {
     let mut found = Vec::new(alloc);
     for name in names {
-        found.push(Sender::Group(place(name, groups)))?;
+        found.push(sender_named(groups, places, name))?;
     }
     Ok(found)
+}
+
+/// The group of this name, or a client at the place of this name.
+fn sender_named(groups: &[Name], places: &[Name], name: &Name) -> Sender
+    ensures { result ≡ sender_of groups.now places.now (Some name.now) }
+{
+    if name.is_among(groups) {
+        Sender::Group(place(name, groups))
+    } else {
+        Sender::Client(place(name, places) + 1)
+    }
 }
 
 /// The place of the name, or 0 where it is not there.

@@ -10,7 +10,7 @@ ghost use Rattle.convoy_kinds.specs.Pairs.{name_beside, other_messages, pair_of,
 use super::kind_laws::pairs_are_scenarios;
 use super::kinds::Kinds;
 use convoy_scenario::naming::{
-    draft_destinations, draft_group, draft_groups, draft_link, draft_sender,
+    draft_destinations, draft_group, draft_groups, draft_link, draft_places, draft_sender,
 };
 use convoy_scenario::scenario_laws::scenarios_have_drafts;
 use convoy_scenario::{DraftLink, DraftMulticast, DraftScenario, Name, Scenario};
@@ -65,6 +65,7 @@ fn draft_of(
         tick: setting.tick(),
         delay: i64::from(setting.delay()),
         groups: draft_groups(alloc, setting)?,
+        places: draft_places(alloc, setting)?,
         links: links_of(alloc, setting)?,
         multicasts: messages_of(alloc, kinds, kind, other)?,
         target_message: Name::new(alloc, kinds.kind_name(kind))?,

@@ -1,4 +1,4 @@
-ghost use Rattle.std.specs.Prelude.{◌≡◌, is_none, slice_index_or, [], IfOk};
+ghost use Rattle.std.specs.Prelude.{◌≡◌, ◌++◌, is_none, slice_index_or, [], map, filter, option_map, Some, IfOk, OnOk};
 ghost use Rattle.std.specs.List.{list_any};
 ghost use Rattle.convoy_draft.specs.declared.fault.ScenarioFault.TheVariants.{Memory};
 ghost use Rattle.convoy_scenario.specs.Memory.{IsUnlessMemory};
@@ -7,7 +7,7 @@ ghost use Rattle.convoy_toml.specs.Reading.{scenario_of_written};
 ghost use Rattle.convoy_toml.specs.Times.{tick_of};
 ghost use Rattle.convoy_kinds.specs.Kinds.{IsKinds, IsKindsIfCounted};
 ghost use Rattle.convoy_kinds.specs.Numbering.{table_names};
-ghost use Rattle.convoy_kinds.specs.Reading.{checked_kinds, kinds_of_text, kinds_of_written, setting_message, setting_sender, counted, written_setting};
+ghost use Rattle.convoy_kinds.specs.Reading.{checked_kinds, counted, kinds_of_text, kinds_of_written, names_sender, sends, setting_message, setting_messages, setting_sender, written_setting};
 ghost use Rattle.convoy_kinds.specs.Shape.{listed, of_scenario};
 
 use super::checks::check;
@@ -17,7 +17,7 @@ use super::limits::MOST_KINDS;
 use super::numbers::{kinds_of, table_names};
 use super::shape::written_of_table;
 use super::written::{WrittenKind, WrittenKinds};
-use convoy_scenario::naming::draft_groups;
+use convoy_scenario::naming::{draft_groups, draft_places};
 use convoy_scenario::{Duration, Name, Scenario, ScenarioFault, TimeUnit};
 use convoy_toml::{
     WrittenMulticast, WrittenScenario, WrittenTime, copy_names, read_table, scenario_of_written,
@@ -65,13 +65,14 @@ fn checked_kinds(
     tables: &[WrittenKind],
 ) -> Result<Vec<Kind>, KindsFault>
     requires { names.now ≡ table_names tables.now }
-    ensures value { IsUnlessMemory (KindsFault.Scenario Memory) (checked_kinds setting.now.groups tables.now) (listed result) }
+    ensures value { IsUnlessMemory (KindsFault.Scenario Memory) (checked_kinds setting.now.groups setting.now.places tables.now) (listed result) }
     ensures formed { IfOk result (λ kinds. IsKindsIfCounted (record { setting = setting.now; unit = _unit; tables = names.now; kinds = kinds.items })) }
 {
     let _count = setting.group_count();
     let groups = draft_groups(alloc, setting)?;
-    check(&groups, names, tables)?;
-    Ok(kinds_of(alloc, &groups, tables)?)
+    let places = draft_places(alloc, setting)?;
+    check(&groups, &places, names, tables)?;
+    Ok(kinds_of(alloc, &groups, &places, tables)?)
 }
 
 /// The kinds, if there are as many as there may be.
@@ -97,7 +98,7 @@ fn counted(
     }
 }
 
-/// What the kinds share as a scenario of one message, where a tick has this length.
+/// What the kinds share as a scenario of the setting's messages, where a tick has this length.
 fn written_setting(
     alloc: Global,
     setting: WrittenScenario,
@@ -107,29 +108,109 @@ fn written_setting(
     ensures { IfOk result (λ whole. whole
         ≡ written_setting (record { setting = setting; tables = tables.now }) tick) }
 {
-    let message = setting_message(alloc, &setting, tables)?;
+    let messages = setting_messages(alloc, &setting, tables)?;
     let group = first_of(alloc, &setting.groups)?;
     Ok(WrittenScenario {
         tick,
-        multicasts: vec![in alloc; message]?,
-        target_message: Name::new(alloc, "all")?,
+        multicasts: messages,
+        target_message: Name::new(alloc, FIRST)?,
         target_group: group,
         ..setting
     })
 }
 
-/// The message of the setting, which goes to all groups.
-fn setting_message(
+/// The name of the first message of the setting, which no place has.
+const FIRST: &str = "client";
+
+/// The messages of the setting: one from clients of no named place where these send, else from the first group, and one
+/// from clients at each place that sends.
+fn setting_messages(
     alloc: Global,
     setting: &WrittenScenario,
     tables: &[WrittenKind],
+) -> Result<Vec<WrittenMulticast>, AllocError>
+    ensures { IfOk result (λ messages. messages.items
+        ≡ setting_messages (record { setting = setting.now; tables = tables.now })) }
+{
+    let sender = setting_sender(setting, tables)?;
+    let first = setting_message(alloc, setting, Name::new(alloc, FIRST)?, sender)?;
+    let places = sending(alloc, tables, &setting.places)?;
+    let mut messages = vec![in alloc; first]?;
+    push_messages_from(alloc, setting, &places, &mut messages)?;
+    Ok(messages)
+}
+
+/// Those of the places that send messages of some table.
+fn sending(alloc: Global, tables: &[WrittenKind], places: &[Name]) -> Result<Vec<Name>, AllocError>
+    ensures { IfOk result (λ names. names.items ≡ filter (sends tables.now) places.now) }
+{
+    let mut names = Vec::new(alloc);
+    for place in places {
+        if sends(tables, place) {
+            names.push(place.copy()?)?;
+        }
+    }
+    Ok(names)
+}
+
+/// Whether messages of some table come from what has the name.
+fn sends(tables: &[WrittenKind], name: &Name) -> bool
+    ensures { result ≡ sends tables.now name.now }
+{
+    tables
+        .iter()
+        .any(|table| names_sender(name, &table.senders))
+}
+
+/// Whether the name is one of those that send.
+fn names_sender(name: &Name, senders: &Option<Vec<Name>>) -> bool
+    ensures { result ≡ names_sender name.now (option_map (λ names. names.items) senders.now) }
+{
+    match senders {
+        Some(names) => name.is_among(names),
+        None => false,
+    }
+}
+
+/// Appends a message from clients at each of the places, under its name.
+fn push_messages_from(
+    alloc: Global,
+    setting: &WrittenScenario,
+    places: &[Name],
+    messages: &mut Vec<WrittenMulticast>,
+) -> Result<(), AllocError>
+    ensures { OnOk result (messages.new.items
+        ≡ messages.old.items ++ map (λ place. setting_message setting.now place (Some place)) places.now) }
+{
+    for place in places {
+        messages.push(message_from(alloc, setting, place)?)?;
+    }
+    Ok(())
+}
+
+/// A message from clients at that place, under its name.
+fn message_from(
+    alloc: Global,
+    setting: &WrittenScenario,
+    place: &Name,
 ) -> Result<WrittenMulticast, AllocError>
-    ensures { IfOk result (λ message. message
-        ≡ setting_message (record { setting = setting.now; tables = tables.now })) }
+    ensures { IfOk result (λ message. message ≡ setting_message setting.now place.now (Some place.now)) }
+{
+    setting_message(alloc, setting, place.copy()?, Some(place.copy()?))
+}
+
+/// A message of the setting, which goes to all groups.
+fn setting_message(
+    alloc: Global,
+    setting: &WrittenScenario,
+    name: Name,
+    sender: Option<Name>,
+) -> Result<WrittenMulticast, AllocError>
+    ensures { IfOk result (λ message. message ≡ setting_message setting.now name sender) }
 {
     Ok(WrittenMulticast {
-        name: Name::new(alloc, "all")?,
-        sender: setting_sender(setting, tables)?,
+        name,
+        sender,
         to: copy_names(alloc, &setting.groups)?,
         at: WrittenTime::Count(0),
         until: None,
@@ -137,7 +218,7 @@ fn setting_message(
     })
 }
 
-/// Who sends it: a client where some table is one of clients, else the first group.
+/// Who sends the first message: a client of no named place where some table is one of these, else the first group.
 fn setting_sender(
     setting: &WrittenScenario,
     tables: &[WrittenKind],
@@ -154,7 +235,7 @@ fn setting_sender(
     }
 }
 
-/// Whether some table is one of clients.
+/// Whether some table is one of clients of no named place.
 fn some_are_of_clients(tables: &[WrittenKind]) -> bool
     ensures { result ≡ list_any (λ table. is_none table.senders) tables.now }
 {

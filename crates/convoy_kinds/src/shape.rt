@@ -230,7 +230,7 @@ pub(crate) fn written_of_table(alloc: Global, table: &Table) -> Result<WrittenKi
     need_only(
         table,
         &[
-            "time", "tick", "delay", "least", "groups", "link", "group", "kind",
+            "time", "tick", "delay", "least", "groups", "places", "link", "group", "kind",
         ],
     )?;
     Ok(WrittenKinds {

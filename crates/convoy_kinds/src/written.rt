@@ -9,7 +9,7 @@ use std::marker::Model;
 #[derive(Drop)]
 pub(crate) struct WrittenKind {
     pub(crate) name: Name,
-    /// The groups that send, or none where clients do.
+    /// The groups and the places that send, or none where clients of no named place do.
     pub(crate) senders: Option<Vec<Name>>,
     /// The groups to all of which each message goes, where they are written.
     pub(crate) to: Option<Vec<Name>>,

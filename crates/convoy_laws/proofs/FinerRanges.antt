@@ -5,7 +5,7 @@ use Rattle.std.specs.Str.{bytes_eq}
 use Rattle.std.proofs.lemmas.Bool.{and_parts, and_from, both_ways, cases_Bool, eqb-true, false≢true, false_from_ne_true}
 use Rattle.std.proofs.lemmas.List.{map-append}
 use Rattle.std.proofs.lemmas.List.Folds.{find-append}
-use Rattle.convoy_draft.specs.declared.limits.TheConstants.{GREATEST_AT, GREATEST_DELAY, GREATEST_UNTIL, LONGEST_WAIT, MOST_GROUPS}
+use Rattle.convoy_draft.specs.declared.limits.TheConstants.{GREATEST_AT, GREATEST_DELAY, GREATEST_UNTIL, LONGEST_WAIT, MOST_GROUPS, MOST_PLACES}
 use Rattle.convoy_draft.specs.declared.time.Time.TheVariants.{Real}
 use Rattle.convoy_draft.specs.Checks.{has_range, has_wait, is_named_alike, is_within, ticks}
 use Rattle.convoy_draft.specs.Draft.{Draft, DraftLink, DraftMessage}
@@ -53,32 +53,32 @@ abbrev pub as_fine : ℕ → Link → Link
 as_fine times link = record link { least = times * link.least; most = times * link.most }
 
 -- the links of a list have so many times the numbers
-abbrev pub AreAsFine : ℕ → List (List ℕ) → List DraftLink → Type 0
-AreAsFine times groups links = AllByRecursion (λ link. link_of groups (finer_link times link) ≡ as_fine times (link_of groups link)) links
+abbrev pub AreAsFine : ℕ → List (List ℕ) → List (List ℕ) → List DraftLink → Type 0
+AreAsFine times groups places links = AllByRecursion (λ link. link_of groups places (finer_link times link) ≡ as_fine times (link_of groups places link)) links
 
-link_finer : (times : ℕ) (groups : List (List ℕ)) (delay finer_delay : ℤ) (link : DraftLink) → is_within 1 GREATEST_DELAY delay ≡ true → is_within 1 GREATEST_DELAY finer_delay ≡ true
-    → has_range delay link ≡ true → has_range finer_delay (finer_link times link) ≡ true → link_of groups (finer_link times link) ≡ as_fine times (link_of groups link)
-link_finer times groups delay finer_delay link within finer_within range finer_has =
+link_finer : (times : ℕ) (groups places : List (List ℕ)) (delay finer_delay : ℤ) (link : DraftLink) → is_within 1 GREATEST_DELAY delay ≡ true → is_within 1 GREATEST_DELAY finer_delay ≡ true
+    → has_range delay link ≡ true → has_range finer_delay (finer_link times link) ≡ true → link_of groups places (finer_link times link) ≡ as_fine times (link_of groups places link)
+link_finer times groups places delay finer_delay link within finer_within range finer_has =
     let here = within_range link.least link.most delay within range in
     let there = within_range (finer_ticks times link.least) (finer_ticks times link.most) finer_delay finer_within finer_has in
     rw (ticks_finer times GREATEST_DELAY link.least here.0 there.0, ticks_finer times GREATEST_DELAY link.most here.1 there.1) refl
 
-pub links_finer : (times : ℕ) (groups : List (List ℕ)) (delay finer_delay : ℤ) (links : List DraftLink) → is_within 1 GREATEST_DELAY delay ≡ true → is_within 1 GREATEST_DELAY finer_delay ≡ true
-    → list_all (has_range delay) links ≡ true → list_all (has_range finer_delay) (map (finer_link times) links) ≡ true → AreAsFine times groups links
-links_finer times groups delay finer_delay [] within finer_within ranges finer_ranges = tt
-links_finer times groups delay finer_delay (link ∷ links) within finer_within ranges finer_ranges =
+pub links_finer : (times : ℕ) (groups places : List (List ℕ)) (delay finer_delay : ℤ) (links : List DraftLink) → is_within 1 GREATEST_DELAY delay ≡ true → is_within 1 GREATEST_DELAY finer_delay ≡ true
+    → list_all (has_range delay) links ≡ true → list_all (has_range finer_delay) (map (finer_link times) links) ≡ true → AreAsFine times groups places links
+links_finer times groups places delay finer_delay [] within finer_within ranges finer_ranges = tt
+links_finer times groups places delay finer_delay (link ∷ links) within finer_within ranges finer_ranges =
     let p = and_parts (has_range delay link) (list_all (has_range delay) links) ranges in
     let q = and_parts (has_range finer_delay (finer_link times link)) (list_all (has_range finer_delay) (map (finer_link times) links)) finer_ranges in
-    (link_finer times groups delay finer_delay link within finer_within p.0 q.0, links_finer times groups delay finer_delay links within finer_within p.1 q.1)
+    (link_finer times groups places delay finer_delay link within finer_within p.0 q.0, links_finer times groups places delay finer_delay links within finer_within p.1 q.1)
 
 -- the link between two places is the same, with so many times the numbers
-pub found_finer : (times : ℕ) (groups : List (List ℕ)) (sender : Sender) (to : ℕ) (links : List DraftLink) → AreAsFine times groups links
-    → find (leads sender to) (map (link_of groups) (map (finer_link times) links)) ≡ option_map (as_fine times) (find (leads sender to) (map (link_of groups) links))
-found_finer times groups sender to [] are = refl
-found_finer times groups sender to (link ∷ links) are =
-    elim (cases_Bool (leads sender to (link_of groups link))) [
+pub found_finer : (times : ℕ) (groups places : List (List ℕ)) (sender : Sender) (to : ℕ) (links : List DraftLink) → AreAsFine times groups places links
+    → find (leads sender to) (map (link_of groups places) (map (finer_link times) links)) ≡ option_map (as_fine times) (find (leads sender to) (map (link_of groups places) links))
+found_finer times groups places sender to [] are = refl
+found_finer times groups places sender to (link ∷ links) are =
+    elim (cases_Bool (leads sender to (link_of groups places link))) [
       | inl here ↦ rw here (ap Some are.0)
-      | inr away ↦ rw away (found_finer times groups sender to links are.1)
+      | inr away ↦ rw away (found_finer times groups places sender to links are.1)
     ]
 
 -- ---- the links that a least delay of what goes by none adds
@@ -94,39 +94,39 @@ some_carry times way (message ∷ messages) = rw (some_carry times way messages)
 
 module _ (sender : Sender) (to : ℕ) where
   -- the range of a link that is added along a way
-  found_along : (groups : List (List ℕ)) (least delay : ℤ) (default : ℕ) (way : Way) (ways : List Way) → sender_of groups way.sender ≡ sender → place way.to groups ≡ to → is_same_sender sender sender ≡ true → IsIn way ways
-      → range_found default (find (leads sender to) (map (link_of groups) (map (link_along least delay) ways))) ≡ (ticks GREATEST_DELAY least, ticks GREATEST_DELAY delay)
-  found_along groups least delay default way [] from there itself i = absurd i
-  found_along groups least delay default way (other ∷ ways) from there itself i =
-      elim (cases_Bool (leads sender to (link_of groups (link_along least delay other)))) [
+  found_along : (groups places : List (List ℕ)) (least delay : ℤ) (default : ℕ) (way : Way) (ways : List Way) → sender_of groups places way.sender ≡ sender → place way.to groups ≡ to → is_same_sender sender sender ≡ true → IsIn way ways
+      → range_found default (find (leads sender to) (map (link_of groups places) (map (link_along least delay) ways))) ≡ (ticks GREATEST_DELAY least, ticks GREATEST_DELAY delay)
+  found_along groups places least delay default way [] from there itself i = absurd i
+  found_along groups places least delay default way (other ∷ ways) from there itself i =
+      elim (cases_Bool (leads sender to (link_of groups places (link_along least delay other)))) [
         | inl here ↦ rw here refl
-        | inr away ↦ rw away (further i away (λ rest. found_along groups least delay default way ways from there itself rest))
+        | inr away ↦ rw away (further i away (λ rest. found_along groups places least delay default way ways from there itself rest))
       ]
     where
-      further : IsIn way (other ∷ ways) → leads sender to (link_of groups (link_along least delay other)) ≡ false
-          → (IsIn way ways → range_found default (find (leads sender to) (map (link_of groups) (map (link_along least delay) ways))) ≡ (ticks GREATEST_DELAY least, ticks GREATEST_DELAY delay))
-          → range_found default (find (leads sender to) (map (link_of groups) (map (link_along least delay) ways))) ≡ (ticks GREATEST_DELAY least, ticks GREATEST_DELAY delay)
+      further : IsIn way (other ∷ ways) → leads sender to (link_of groups places (link_along least delay other)) ≡ false
+          → (IsIn way ways → range_found default (find (leads sender to) (map (link_of groups places) (map (link_along least delay) ways))) ≡ (ticks GREATEST_DELAY least, ticks GREATEST_DELAY delay))
+          → range_found default (find (leads sender to) (map (link_of groups places) (map (link_along least delay) ways))) ≡ (ticks GREATEST_DELAY least, ticks GREATEST_DELAY delay)
       further (inl same) away others =
-          let here : leads sender to (link_of groups (link_along least delay way)) ≡ true = rw (from, there) (and_from _ _ itself (eq-eqb to to refl)) in
-          absurd (both_ways _ away (ap (λ (w : Way). leads sender to (link_of groups (link_along least delay w))) same ∙ here))
+          let here : leads sender to (link_of groups places (link_along least delay way)) ≡ true = rw (from, there) (and_from _ _ itself (eq-eqb to to refl)) in
+          absurd (both_ways _ away (ap (λ (w : Way). leads sender to (link_of groups places (link_along least delay w))) same ∙ here))
       further (inr rest) away others = others rest
 
   -- a link that is written stays the one between its places, whatever is added
-  pub found_before : (least : Option ℤ) (draft : Draft) (link : Link) → find (leads sender to) (map (link_of draft.groups) draft.links) ≡ Some link
-      → find (leads sender to) (map (link_of draft.groups) (with_least least draft).links) ≡ Some link
+  pub found_before : (least : Option ℤ) (draft : Draft) (link : Link) → find (leads sender to) (map (link_of draft.groups draft.places) draft.links) ≡ Some link
+      → find (leads sender to) (map (link_of draft.groups draft.places) (with_least least draft).links) ≡ Some link
   found_before None draft link e = e
   found_before (Some least) draft link e =
       elim (cases_Bool (int_le least (pos 1))) [
         | inl one ↦ rw one e
         | inr more ↦
             let added = map (link_along least draft.delay) (ways_without_link draft) in
-            rw (more, map-append (link_of draft.groups) draft.links added, find-append (leads sender to) (map (link_of draft.groups) draft.links) (map (link_of draft.groups) added), e) refl
+            rw (more, map-append (link_of draft.groups draft.places) draft.links added, find-append (leads sender to) (map (link_of draft.groups draft.places) draft.links) (map (link_of draft.groups draft.places) added), e) refl
       ]
 
   -- where none is written, the range is from the least delay of what goes by none to D
-  pub found_after : (least : ℕ) (draft : Draft) (way : Way) → 1 ≤ least → is_same_sender sender sender ≡ true → sender_of draft.groups way.sender ≡ sender → place way.to draft.groups ≡ to → IsIn way (ways_without_link draft)
-      → find (leads sender to) (map (link_of draft.groups) draft.links) ≡ None
-      → range_found (ticks GREATEST_DELAY draft.delay) (find (leads sender to) (map (link_of draft.groups) (with_least (Some (pos least)) draft).links)) ≡ (ticks GREATEST_DELAY (pos least), ticks GREATEST_DELAY draft.delay)
+  pub found_after : (least : ℕ) (draft : Draft) (way : Way) → 1 ≤ least → is_same_sender sender sender ≡ true → sender_of draft.groups draft.places way.sender ≡ sender → place way.to draft.groups ≡ to → IsIn way (ways_without_link draft)
+      → find (leads sender to) (map (link_of draft.groups draft.places) draft.links) ≡ None
+      → range_found (ticks GREATEST_DELAY draft.delay) (find (leads sender to) (map (link_of draft.groups draft.places) (with_least (Some (pos least)) draft).links)) ≡ (ticks GREATEST_DELAY (pos least), ticks GREATEST_DELAY draft.delay)
   found_after least draft way some itself from there lacks none =
       elim (cases_Bool (leb least 1)) [
         | inl one ↦
@@ -134,15 +134,15 @@ module _ (sender : Sender) (to : ℕ) where
             rw (one, none, is) refl
         | inr more ↦
             let added = map (link_along (pos least) draft.delay) (ways_without_link draft) in
-            rw (more, map-append (link_of draft.groups) draft.links added, find-append (leads sender to) (map (link_of draft.groups) draft.links) (map (link_of draft.groups) added), none)
-            (found_along draft.groups (pos least) draft.delay (ticks GREATEST_DELAY draft.delay) way (ways_without_link draft) from there itself lacks)
+            rw (more, map-append (link_of draft.groups draft.places) draft.links added, find-append (leads sender to) (map (link_of draft.groups draft.places) draft.links) (map (link_of draft.groups draft.places) added), none)
+            (found_along draft.groups draft.places (pos least) draft.delay (ticks GREATEST_DELAY draft.delay) way (ways_without_link draft) from there itself lacks)
       ]
 
 -- ---- the ways that have no link
 
-leads_by_name : (groups : List (List ℕ)) (way : Way) (link : DraftLink) → is_same_sender (sender_of groups way.sender) (sender_of groups way.sender) ≡ true → leads_along way link ≡ true
-    → leads (sender_of groups way.sender) (place way.to groups) (link_of groups link) ≡ true
-leads_by_name groups way link itself e =
+leads_by_name : (groups places : List (List ℕ)) (way : Way) (link : DraftLink) → is_same_sender (sender_of groups places way.sender) (sender_of groups places way.sender) ≡ true → leads_along way link ≡ true
+    → leads (sender_of groups places way.sender) (place way.to groups) (link_of groups places link) ≡ true
+leads_by_name groups places way link itself e =
     let ends = and_parts (is_named_alike way.sender link.sender) (bytes_eq way.to link.to) e in
     let to : way.to ≡ link.to = same_bytes way.to link.to ends.1 in
     let from : way.sender ≡ link.sender = same_sender way.sender link.sender ends.0 in
@@ -155,21 +155,21 @@ leads_by_name groups way link itself e =
     same_sender (Some a) (Some b) e = ap Some (same_bytes a b e)
 
 -- where no link is found between the places of a way, none leads along it
-pub none_leads : (groups : List (List ℕ)) (way : Way) (links : List DraftLink) → is_same_sender (sender_of groups way.sender) (sender_of groups way.sender) ≡ true
-    → find (leads (sender_of groups way.sender) (place way.to groups)) (map (link_of groups) links) ≡ None → list_any (leads_along way) links ≡ false
-none_leads groups way links itself none =
+pub none_leads : (groups places : List (List ℕ)) (way : Way) (links : List DraftLink) → is_same_sender (sender_of groups places way.sender) (sender_of groups places way.sender) ≡ true
+    → find (leads (sender_of groups places way.sender) (place way.to groups)) (map (link_of groups places) links) ≡ None → list_any (leads_along way) links ≡ false
+none_leads groups places way links itself none =
     false_from_ne_true _ (λ e.
     let found = in_of_list_any (leads_along way) links e in
-    let is = find-in (leads (sender_of groups way.sender) (place way.to groups)) (link_of groups found.0) (map (link_of groups) links) (in-map (link_of groups) found.0 links found.1) (leads_by_name groups way found.0 itself found.2) in
+    let is = find-in (leads (sender_of groups places way.sender) (place way.to groups)) (link_of groups places found.0) (map (link_of groups places) links) (in-map (link_of groups places) found.0 links found.1) (leads_by_name groups places way found.0 itself found.2) in
     nothing is.0 (sym none ∙ is.1))
   where
     nothing : (link : Link) → ◌≡◌ {A = Option Link} None (Some link) → ⊥
     nothing link e = absurd cc
 
 -- such a way is among those without a link
-pub lacks : (draft : Draft) (way : Way) → IsIn way (ways_between (take MOST_GROUPS draft.groups)) → list_any (carries way) draft.messages ≡ true → list_any (leads_along way) draft.links ≡ false → IsIn way (ways_without_link draft)
+pub lacks : (draft : Draft) (way : Way) → IsIn way (ways_between (take MOST_GROUPS draft.groups) (take MOST_PLACES draft.places)) → list_any (carries way) draft.messages ≡ true → list_any (leads_along way) draft.links ≡ false → IsIn way (ways_without_link draft)
 lacks draft way between carried none =
-    in-filter (lacks_link draft.messages draft.links) way (ways_between (take MOST_GROUPS draft.groups)) between (rw (carried, none) refl)
+    in-filter (lacks_link draft.messages draft.links) way (ways_between (take MOST_GROUPS draft.groups) (take MOST_PLACES draft.places)) between (rw (carried, none) refl)
 
 -- where ranges are asked for and no least delay is written, there is none such
 pub none_lacks : (draft : Draft) (way : Way) → draft.time ≡ Real → has_ranges false draft ≡ true → IsIn way (ways_without_link draft) → ⊥
@@ -216,20 +216,20 @@ waits_finer times (pos a) (pos u) low high waits finer_waits =
 waits_finer times (negsuc a) until low high waits finer_waits = absurd (false≢true low)
 waits_finer times (pos a) (negsuc u) low high waits finer_waits = absurd (false≢true waits)
 
-pub messages_finer : (times : ℕ) (groups : List (List ℕ)) (messages : List DraftMessage) → list_all (λ m. is_within 0 GREATEST_AT m.at) messages ≡ true → list_all (λ m. is_within 0 GREATEST_AT m.at) (map (finer_message times) messages) ≡ true
-    → list_all has_wait messages ≡ true → list_all has_wait (map (finer_message times) messages) ≡ true → AllZip (IsAsFine times) (map (message_of groups) messages) (map (message_of groups) (map (finer_message times) messages))
-messages_finer times groups [] at finer_at waits finer_waits = tt
-messages_finer times groups (message ∷ messages) at finer_at waits finer_waits =
+pub messages_finer : (times : ℕ) (groups places : List (List ℕ)) (messages : List DraftMessage) → list_all (λ m. is_within 0 GREATEST_AT m.at) messages ≡ true → list_all (λ m. is_within 0 GREATEST_AT m.at) (map (finer_message times) messages) ≡ true
+    → list_all has_wait messages ≡ true → list_all has_wait (map (finer_message times) messages) ≡ true → AllZip (IsAsFine times) (map (message_of groups places) messages) (map (message_of groups places) (map (finer_message times) messages))
+messages_finer times groups places [] at finer_at waits finer_waits = tt
+messages_finer times groups places (message ∷ messages) at finer_at waits finer_waits =
     let within : DraftMessage → Bool = λ m. is_within 0 GREATEST_AT m.at in
     let fine = map (finer_message times) messages in
     let a = and_parts (within message) (list_all within messages) at in
     let b = and_parts (within (finer_message times message)) (list_all within fine) finer_at in
     let c = and_parts (has_wait message) (list_all has_wait messages) waits in
     let d = and_parts (has_wait (finer_message times message)) (list_all has_wait fine) finer_waits in
-    let here : IsAsFine times (message_of groups message) (message_of groups (finer_message times message)) = record {
+    let here : IsAsFine times (message_of groups places message) (message_of groups places (finer_message times message)) = record {
       sender = refl;
       destinations = refl;
       at = ticks_finer times GREATEST_AT message.at a.0 b.0;
       wait = waits_finer times message.at message.until a.0 b.0 c.0 d.0;
     } in
-    (here, messages_finer times groups messages a.1 b.1 c.1 d.1)
+    (here, messages_finer times groups places messages a.1 b.1 c.1 d.1)

@@ -9,7 +9,7 @@ use Rattle.std.proofs.lemmas.List.Folds.{list_all-append}
 use Rattle.convoy_draft.specs.declared.fault.ScenarioFault.{ScenarioFault}
 use Rattle.convoy_draft.specs.declared.fault.ScenarioFault.TheVariants.{OverLimit}
 use Rattle.convoy_draft.specs.declared.fault.Limit.TheVariants as limits
-use Rattle.convoy_draft.specs.declared.limits.TheConstants.{GREATEST_DELAY, MOST_GROUPS}
+use Rattle.convoy_draft.specs.declared.limits.TheConstants.{GREATEST_DELAY, MOST_GROUPS, MOST_PLACES}
 use Rattle.convoy_draft.specs.declared.time.Time.TheVariants.{Real}
 use Rattle.convoy_draft.specs.Checks.{checks, has_range, is_within, judge, ticks}
 use Rattle.convoy_draft.specs.Draft.{Draft, DraftLink, DraftMessage}
@@ -43,7 +43,7 @@ finer_draft times tick plain = record plain {
 }
 
 sender_itself : (sender : Sender) → is_same_sender sender sender ≡ true
-sender_itself Client = refl
+sender_itself (Client p) = eq-eqb p p refl
 sender_itself (Group g) = eq-eqb g g refl
 
 -- ---- the least delay of what goes by no link
@@ -104,14 +104,14 @@ module _ (times tick : ℕ) (plain : Draft) (way : Way) where
   fine = finer_draft times tick plain
 
   abbrev from : Sender
-  from = sender_of plain.groups way.sender
+  from = sender_of plain.groups plain.places way.sender
 
   abbrev to : ℕ
   to = place way.to plain.groups
 
   -- the link that is found between its places, where these are the links
   abbrev found : List DraftLink → Option Link
-  found links = find (leads from to) (map (link_of plain.groups) links)
+  found links = find (leads from to) (map (link_of plain.groups plain.places) links)
 
   -- the range along the way, in ticks and in finer ones
   abbrev range : Option ℤ → ℕ × ℕ
@@ -120,21 +120,21 @@ module _ (times tick : ℕ) (plain : Draft) (way : Way) where
   abbrev fine_range : Option ℤ → ℕ × ℕ
   fine_range least = range_found (ticks GREATEST_DELAY fine.delay) (found (with_least (option_map (finer_ticks times) least) fine).links)
 
-  by_link : (least : Option ℤ) (link : Link) → AreAsFine times plain.groups plain.links → found plain.links ≡ Some link → fine_range least ≡ finer_range times (range least)
+  by_link : (least : Option ℤ) (link : Link) → AreAsFine times plain.groups plain.places plain.links → found plain.links ≡ Some link → fine_range least ≡ finer_range times (range least)
   by_link least link are e =
-      let fine_e : found fine.links ≡ Some (as_fine times link) = found_finer times plain.groups from to plain.links are ∙ ap (option_map (as_fine times)) e in
+      let fine_e : found fine.links ≡ Some (as_fine times link) = found_finer times plain.groups plain.places from to plain.links are ∙ ap (option_map (as_fine times)) e in
       let coarse : range least ≡ (link.least, link.most) = ap (range_found (ticks GREATEST_DELAY plain.delay)) (found_before from to least plain link e) in
       let finer : fine_range least ≡ (times * link.least, times * link.most) = ap (range_found (ticks GREATEST_DELAY fine.delay)) (found_before from to (option_map (finer_ticks times) least) fine (as_fine times link) fine_e) in
       finer ∙ ap (finer_range times) (sym coarse)
 
-  by_least : (least : ℕ) → 1 ≤ times → AreAsFine times plain.groups plain.links → is_within 1 GREATEST_DELAY plain.delay ≡ true → is_within 1 GREATEST_DELAY fine.delay ≡ true
+  by_least : (least : ℕ) → 1 ≤ times → AreAsFine times plain.groups plain.places plain.links → is_within 1 GREATEST_DELAY plain.delay ≡ true → is_within 1 GREATEST_DELAY fine.delay ≡ true
       → need_least Real plain.delay (Some (pos least)) ≡ Ok tt → need_least Real fine.delay (Some (pos (times * least))) ≡ Ok tt
-      → IsIn way (ways_between (take MOST_GROUPS plain.groups)) → list_any (carries way) plain.messages ≡ true → found plain.links ≡ None → fine_range (Some (pos least)) ≡ finer_range times (range (Some (pos least)))
+      → IsIn way (ways_between (take MOST_GROUPS plain.groups) (take MOST_PLACES plain.places)) → list_any (carries way) plain.messages ≡ true → found plain.links ≡ None → fine_range (Some (pos least)) ≡ finer_range times (range (Some (pos least)))
   by_least least some are within fine_within low fine_low between carried none =
       let (at_least, least_in) = least_within least plain.delay within low in
       let (fine_at_least, fine_least_in) = least_within (times * least) fine.delay fine_within fine_low in
-      let none_along = none_leads plain.groups way plain.links (sender_itself from) none in
-      let fine_none : found fine.links ≡ None = found_finer times plain.groups from to plain.links are ∙ ap (option_map (as_fine times)) none in
+      let none_along = none_leads plain.groups plain.places way plain.links (sender_itself from) none in
+      let fine_none : found fine.links ≡ None = found_finer times plain.groups plain.places from to plain.links are ∙ ap (option_map (as_fine times)) none in
       let here = lacks plain way between carried none_along in
       let there = lacks fine way between (some_carry times way plain.messages ∙ carried) (some_lead times way plain.links ∙ none_along) in
       let coarse : range (Some (pos least)) ≡ (ticks GREATEST_DELAY (pos least), ticks GREATEST_DELAY plain.delay) = found_after from to least plain way at_least (sender_itself from) refl refl here none in
@@ -145,12 +145,12 @@ module _ (times tick : ℕ) (plain : Draft) (way : Way) where
       finer ∙ as_many ∙ ap (finer_range times) (sym coarse)
 
   -- what goes that way has so many times the range
-  along : (least : Option ℤ) (link : Option Link) → found plain.links ≡ link → 1 ≤ times → AreAsFine times plain.groups plain.links → is_within 1 GREATEST_DELAY plain.delay ≡ true → is_within 1 GREATEST_DELAY fine.delay ≡ true
+  along : (least : Option ℤ) (link : Option Link) → found plain.links ≡ link → 1 ≤ times → AreAsFine times plain.groups plain.places plain.links → is_within 1 GREATEST_DELAY plain.delay ≡ true → is_within 1 GREATEST_DELAY fine.delay ≡ true
       → need_least Real plain.delay least ≡ Ok tt → need_least Real fine.delay (option_map (finer_ticks times) least) ≡ Ok tt → plain.time ≡ Real → has_ranges (is_some least) (with_least least plain) ≡ true
-      → IsIn way (ways_between (take MOST_GROUPS plain.groups)) → list_any (carries way) plain.messages ≡ true → fine_range least ≡ finer_range times (range least)
+      → IsIn way (ways_between (take MOST_GROUPS plain.groups) (take MOST_PLACES plain.places)) → list_any (carries way) plain.messages ≡ true → fine_range least ≡ finer_range times (range least)
   along least (Some link) e some are within fine_within low fine_low real ranged between carried = by_link least link are e
   along None None e some are within fine_within low fine_low real ranged between carried =
-      absurd (none_lacks plain way real ranged (lacks plain way between carried (none_leads plain.groups way plain.links (sender_itself from) e)))
+      absurd (none_lacks plain way real ranged (lacks plain way between carried (none_leads plain.groups plain.places way plain.links (sender_itself from) e)))
   along (Some (pos least)) None e some are within fine_within low fine_low real ranged between carried = by_least least some are within fine_within low fine_low between carried e
   along (Some (negsuc least)) None e some are within fine_within low fine_low real ranged between carried =
       absurd (not_negative least plain.delay within low)
@@ -233,14 +233,14 @@ module _ (keeps : OrderKeepsRanges) (takes : OrderKeepsWhatTakesTime) (times tic
   fine_within : is_within 1 GREATEST_DELAY (finer_ticks times plain.delay) ≡ true
   fine_within = rw (are.real) at passed_there.delay
 
-  all_as_fine : AreAsFine times plain.groups plain.links
+  all_as_fine : AreAsFine times plain.groups plain.places plain.links
   all_as_fine =
-      links_finer times plain.groups plain.delay (finer_ticks times plain.delay) plain.links within fine_within
+      links_finer times plain.groups plain.places plain.delay (finer_ticks times plain.delay) plain.links within fine_within
       (written_links (has_range plain.delay) least plain passed_here.ranges)
       (written_links (has_range (finer_ticks times plain.delay)) (option_map (finer_ticks times) least) (finer_draft times tick plain) passed_there.ranges)
 
   zipped : AllZip (IsAsFine times) scenario.multicasts finer.multicasts
-  zipped = messages_finer times plain.groups plain.messages passed_here.at passed_there.at passed_here.waits passed_there.waits
+  zipped = messages_finer times plain.groups plain.places plain.messages passed_here.at passed_there.at passed_here.waits passed_there.waits
 
   same_message : (m : ℕ) → IsAsFine times (message_at scenario m) (message_at finer m)
   same_message m = fine_at times scenario.multicasts finer.multicasts m zipped
@@ -254,9 +254,9 @@ module _ (keeps : OrderKeepsRanges) (takes : OrderKeepsWhatTakesTime) (times tic
   between_same : (sender : Sender) (to : ℕ) → Goes draft sender to → range_between finer sender to ≡ finer_range times (range_between scenario sender to)
   between_same sender to trip =
       let way = trip.way in
-      let from = sender_of plain.groups way.sender in
+      let from = sender_of plain.groups plain.places way.sender in
       let there = place way.to plain.groups in
-      let ranges = along times tick plain way least (find (leads from there) (map (link_of plain.groups) plain.links)) refl are.some all_as_fine within fine_within are.low are.fine_low are.real are.ranged trip.between trip.carried in
+      let ranges = along times tick plain way least (find (leads from there) (map (link_of plain.groups plain.places) plain.links)) refl are.some all_as_fine within fine_within are.low are.fine_low are.real are.ranged trip.between trip.carried in
       let here : range_between finer from there ≡ finer_range times (range_between scenario from there) =
       keeps fine_draft finer from there given_there ∙ ranges ∙ ap (finer_range times) (sym (keeps draft scenario from there given_here)) in
       let at_group : range_between finer from to ≡ finer_range times (range_between scenario from to) =
@@ -267,12 +267,12 @@ module _ (keeps : OrderKeepsRanges) (takes : OrderKeepsWhatTakesTime) (times tic
 
   -- the one that is found is one that is written, in ticks and in finer ones
   abbrev home : Draft → ℕ → Option Link
-  home written g = find (leads (Group g) g) (map (link_of written.groups) written.links)
+  home written g = find (leads (Group g) g) (map (link_of written.groups written.places) written.links)
 
   home_finer : (g : ℕ) → home fine_draft g ≡ option_map (as_fine times) (home draft g)
   home_finer g =
       home_as_written (option_map (finer_ticks times) least) (finer_draft times tick plain) g passed_there.ends
-      ∙ found_finer times plain.groups (Group g) g plain.links all_as_fine
+      ∙ found_finer times plain.groups plain.places (Group g) g plain.links all_as_fine
       ∙ ap (option_map (as_fine times)) (sym (home_as_written least plain g passed_here.ends))
 
   same_homes : HaveSameHomes scenario finer

@@ -32,8 +32,8 @@ unfoldable in_half_ticks : Scenario
 in_half_ticks = record base {
   time = Real;
   delay = 6;
-  links = half_link Client 0 ∷ half_link Client 1 ∷ half_link (Group 0) 1 ∷ half_link (Group 1) 0 ∷ [];
-  multicasts = message (codes "x") Client (1 ∷ []) 0 ∷ message (codes "t") Client (0 ∷ 1 ∷ []) 0
+  links = half_link (Client 0) 0 ∷ half_link (Client 0) 1 ∷ half_link (Group 0) 1 ∷ half_link (Group 1) 0 ∷ [];
+  multicasts = message (codes "x") (Client 0) (1 ∷ []) 0 ∷ message (codes "t") (Client 0) (0 ∷ 1 ∷ []) 0
       ∷ message (codes "y") (Group 0) (0 ∷ 1 ∷ []) 12 ∷ [];
 }
 
@@ -89,7 +89,7 @@ own_in_ticks stamps = record in_ticks { links = record { sender = Group 0; to = 
 -- .. and 4 to 6 half ticks
 unfoldable own_in_half_ticks : Bool → Scenario
 own_in_half_ticks stamps = record in_half_ticks {
-  links = half_link Client 0 ∷ half_link Client 1 ∷ record { sender = Group 0; to = 0; least = 4; most = 6; stamps = stamps } ∷ half_link (Group 0) 1 ∷ half_link (Group 1) 0 ∷ [];
+  links = half_link (Client 0) 0 ∷ half_link (Client 0) 1 ∷ record { sender = Group 0; to = 0; least = 4; most = 6; stamps = stamps } ∷ half_link (Group 0) 1 ∷ half_link (Group 1) 0 ∷ [];
 }
 
 -- a alone has a link to itself, in both
@@ -147,14 +147,14 @@ ticks_late = refl
 -- y may be issued from tick 5 to 6 ..
 unfoldable waiting : Scenario
 waiting = record in_ticks {
-  multicasts = message (codes "x") Client (1 ∷ []) 0 ∷ message (codes "t") Client (0 ∷ 1 ∷ []) 0
+  multicasts = message (codes "x") (Client 0) (1 ∷ []) 0 ∷ message (codes "t") (Client 0) (0 ∷ 1 ∷ []) 0
       ∷ record { name = codes "y"; sender = Group 0; destinations = 0 ∷ 1 ∷ []; at = 5; longest_wait = 1 } ∷ [];
 }
 
 -- .. and from half tick 11 to 12, or just at half tick 11
 unfoldable waiting_in_half_ticks : ℕ → Scenario
 waiting_in_half_ticks longest_wait = record in_half_ticks {
-  multicasts = message (codes "x") Client (1 ∷ []) 0 ∷ message (codes "t") Client (0 ∷ 1 ∷ []) 0
+  multicasts = message (codes "x") (Client 0) (1 ∷ []) 0 ∷ message (codes "t") (Client 0) (0 ∷ 1 ∷ []) 0
       ∷ record { name = codes "y"; sender = Group 0; destinations = 0 ∷ 1 ∷ []; at = 11; longest_wait = longest_wait } ∷ [];
 }
 
@@ -187,13 +187,13 @@ ticks_held = refl
 -- t may be issued at tick 0 or 1
 unfoldable target_waiting : Scenario
 target_waiting = record in_ticks {
-  multicasts = message (codes "x") Client (1 ∷ []) 0 ∷ record (message (codes "t") Client (0 ∷ 1 ∷ []) 0) { longest_wait = 1 }
+  multicasts = message (codes "x") (Client 0) (1 ∷ []) 0 ∷ record (message (codes "t") (Client 0) (0 ∷ 1 ∷ []) 0) { longest_wait = 1 }
       ∷ message (codes "y") (Group 0) (0 ∷ 1 ∷ []) 6 ∷ [];
 }
 
 unfoldable target_waiting_in_half_ticks : Scenario
 target_waiting_in_half_ticks = record in_half_ticks {
-  multicasts = message (codes "x") Client (1 ∷ []) 0 ∷ record (message (codes "t") Client (0 ∷ 1 ∷ []) 0) { longest_wait = 2 }
+  multicasts = message (codes "x") (Client 0) (1 ∷ []) 0 ∷ record (message (codes "t") (Client 0) (0 ∷ 1 ∷ []) 0) { longest_wait = 2 }
       ∷ message (codes "y") (Group 0) (0 ∷ 1 ∷ []) 12 ∷ [];
 }
 

@@ -26,11 +26,11 @@ finer_text = text_with (codes "1 ms")
 -- a link with that range for each way: from the clients to each group, and from each group to the other
 abbrev links : ℕ → ℕ → List Link
 links least most =
-    record { sender = Client; to = 0; least = least; most = most; stamps = false } ∷ record { sender = Client; to = 1; least = least; most = most; stamps = false }
+    record { sender = Client 0; to = 0; least = least; most = most; stamps = false } ∷ record { sender = Client 0; to = 1; least = least; most = most; stamps = false }
     ∷ record { sender = Group 0; to = 1; least = least; most = most; stamps = false } ∷ record { sender = Group 1; to = 0; least = least; most = most; stamps = false } ∷ []
 
 abbrev scenario : ℕ → ℕ → ℕ → Scenario
-scenario tick least delay = record (of_two Real delay (record { name = codes "t"; sender = Client; destinations = 0 ∷ 1 ∷ []; at = 0; longest_wait = 0 } ∷ []) 0 0) {
+scenario tick least delay = record (of_two Real delay (record { name = codes "t"; sender = Client 0; destinations = 0 ∷ 1 ∷ []; at = 0; longest_wait = 0 } ∷ []) 0 0) {
   tick = Some tick;
   links = links least delay;
 }
@@ -52,6 +52,7 @@ written tick = record {
     delay = Some (Lasting 10_000_000);
     least = Some (Lasting 4_000_000);
     groups = codes "a" ∷ codes "b" ∷ [];
+    places = [];
     agreements = [];
     links = [];
     messages = record { name = codes "t"; sender = None; to = codes "a" ∷ codes "b" ∷ []; at = Lasting 0; until = None; within = None } ∷ [];

@@ -45,7 +45,7 @@ AreSameRanges times scenario finer = (packet : Packet) → IsTrue (is_sent scena
 pub record IsRoundable (scenario : Scenario) : Type 0 where
   pub groups_high : length scenario.groups ≤ MOST_GROUPS
   pub multicasts_high : length scenario.multicasts ≤ MOST_MULTICASTS
-  pub messages : All (IsMulticast (length scenario.groups)) scenario.multicasts
+  pub messages : All (IsMulticast (length scenario.groups) (length scenario.places)) scenario.multicasts
   pub addressed : GoesTo scenario scenario.target_message scenario.target_group
 
 -- Well-formed scenarios are roundable.

@@ -1,7 +1,7 @@
 -- Boxes that leads close: a rival that is shown to be behind is none that keeps the target back.
 use Rattle.std.proofs.Common.{◌≡◌, ℕ, ◌+◌, ◌-◌, ◌<◌, ◌≤◌, Bool, true, false, ◌||◌, nat_lt, nat_le, inl, inr, List, [], ◌∷◌, map, refl, subst, arith}
 use Rattle.std.specs.List.{list_all}
-use Rattle.std.proofs.lemmas.Bool.{cases_lt, and_parts, and_from, or_left, lt-ltb, or_cases, ltb-true, le-leb, leb-true}
+use Rattle.std.proofs.lemmas.Bool.{cases_lt, false_from_ne_true, and_parts, and_from, or_left, lt-ltb, or_cases, ltb-true, le-leb, leb-true}
 use Rattle.convoy_scenario.specs.Scenario.{Scenario, message_at, GoesTo}
 use Rattle.convoy_scenario.specs.WellFormed.{IsScenario}
 use Rattle.convoy_packets.specs.declared.packet.Packet.TheVariants.{Propose}
@@ -18,7 +18,7 @@ use Rattle.convoy_sure.specs.Windows.{LeadTables, EnclosesAll, Windows, tables_b
 use Rattle.convoy_sure.specs.SureLaws.{WindowsAreTables, WindowsEncloseMembers}
 use Rattle.convoy_leads.specs.Leads.{is_led}
 use Rattle.convoy_leads.specs.Closing.{is_behind, is_behind_by, is_behind_target, is_behind_after, is_behind_late, closes_by_leads}
-use Rattle.convoy_leads.specs.LeadLaws.{ClosedHoldsOverWindows, LeadsHold, ClosesAtPlain}
+use Rattle.convoy_leads.specs.LeadLaws.{BehindIsNotAhead, ClosedHoldsOverWindows, LeadsHold, ClosesAtPlain}
 use Rattle.convoy_leads.proofs.LedLaw.{list_all_in, led_is_behind}
 
 -- one of some numbers reaches what the greatest of them does
@@ -139,6 +139,11 @@ closed_holds below scenario schedule windows latency well assigned enclosed clos
     ] in
     let all = greatest_most (λ n. settle scenario schedule n g) (at + latency) (t ∷ ahead_of scenario schedule t g) each in
     omega (arith, below.delivery scenario schedule well t g well.addressed)
+
+pub behind_not_ahead : LawsBelow → BehindIsNotAhead
+behind_not_ahead below scenario schedule windows n k tick well assigned enclosed to goes late behind =
+    false_from_ne_true (is_less (local_stamp scenario schedule n scenario.target_group) (final_stamp scenario schedule scenario.target_message))
+    (λ ahead. not_behind_after below scenario schedule well assigned n to ahead windows enclosed k tick goes late behind)
 
 pub leads_hold : ClosedHoldsOverWindows → WindowsEncloseMembers → LeadsHold
 unfolding closes_by_leads

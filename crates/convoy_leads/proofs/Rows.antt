@@ -83,7 +83,7 @@ slow_stays_open = refl
 
 -- six groups, and four messages of which the last goes to all of them
 six_groups : Scenario
-six_groups = record (of_two Ticks 8 (message (codes "u") Client (4 ∷ 5 ∷ []) 0 ∷ message (codes "v") Client (1 ∷ []) 3
+six_groups = record (of_two Ticks 8 (message (codes "u") (Client 0) (4 ∷ 5 ∷ []) 0 ∷ message (codes "v") (Client 0) (1 ∷ []) 3
     ∷ message (codes "t") (Group 3) (0 ∷ 2 ∷ 3 ∷ []) 4 ∷ message (codes "n") (Group 4) (0 ∷ 1 ∷ 2 ∷ 3 ∷ 4 ∷ 5 ∷ []) 5 ∷ []) 2 3) {
       groups = codes "a" ∷ codes "b" ∷ codes "c" ∷ codes "d" ∷ codes "e" ∷ codes "f" ∷ [];
     }

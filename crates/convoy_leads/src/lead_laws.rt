@@ -2,7 +2,7 @@
 //! law calls the function.
 
 ghost use Rattle.convoy_starts.specs.Below.{LawsBelow};
-ghost use Rattle.convoy_leads.specs.LeadLaws.{ClosedHoldsOverWindows, LeadsHold, ClosesAtPlain};
+ghost use Rattle.convoy_leads.specs.LeadLaws.{BehindIsNotAhead, ClosedHoldsOverWindows, LeadsHold, ClosesAtPlain};
 
 use convoy_sim::protocol_laws::{
     delivery_law, earlier_arrives_before_commit, final_stamp_is_local, last_raise,
@@ -34,6 +34,14 @@ fn laws_below()
 /// Where windows enclose an assignment and are closed for a latency, it has no greater one.
 pub fn closed_holds_over_windows()
     ensures { ClosedHoldsOverWindows }
+{
+    laws_below();
+}
+
+/// Where windows enclose an assignment, a message that arrives at a group at a tick or later, and is behind where it does,
+/// is not ahead of the target.
+pub fn behind_is_not_ahead()
+    ensures { BehindIsNotAhead }
 {
     laws_below();
 }

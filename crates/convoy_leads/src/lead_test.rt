@@ -1,9 +1,11 @@
-ghost use Rattle.std.specs.Prelude.{◌≡◌, ◌+◌, All, IfOk, IfSome};
+ghost use Rattle.std.specs.Prelude.{◌≡◌, ◌+◌, ◌<◌, All, IfOk, IfSome, length};
+ghost use Rattle.convoy_draft.specs.declared.limits.TheConstants.{MOST_GROUPS, MOST_MULTICASTS};
 ghost use Rattle.convoy_scenario.specs.Scenario.{message_at};
 ghost use Rattle.convoy_intervals.specs.Boxes.{IsBox};
-ghost use Rattle.convoy_sure.specs.Windows.{windows_of};
+ghost use Rattle.convoy_intervals.specs.Bounds.{rivals};
+ghost use Rattle.convoy_sure.specs.Windows.{tables_by, windows_of};
 ghost use Rattle.convoy_starts.specs.Links.{IsLink};
-ghost use Rattle.convoy_leads.specs.Closing.{closes_over};
+ghost use Rattle.convoy_leads.specs.Closing.{closes_over, is_behind_after};
 ghost use Rattle.convoy_leads.specs.Openings.{IsOpenCase, IsOpening, IsShown, is_closed};
 
 use super::facts::Facts;
@@ -12,8 +14,9 @@ use super::opening::Opening;
 use super::shown::Shown;
 use convoy_intervals::DelayBox;
 use convoy_packets::Instance;
+use convoy_scenario::{MOST_GROUPS, MOST_MULTICASTS};
 use convoy_starts::{Link, Scratch};
-use convoy_sure::{Windows, target_group};
+use convoy_sure::{Messages, Windows, target_group};
 use std::alloc::{AllocError, Global};
 use std::marker::Model;
 
@@ -77,6 +80,41 @@ impl<'a> LeadTest<'a> {
         ensures case { IfOk result (IsShown self.now.scenario) }
     {
         self.facts.shown(&self.windows, latency, scratch)
+    }
+
+    /// The windows that are tested.
+    pub fn windows(&self) -> &Windows
+        ensures { result.now ≡ self.now.windows }
+    {
+        &self.windows
+    }
+
+    /// The rivals of the target: the messages that may arrive at its group by when it is committed there at the latest.
+    pub fn rivals(&self) -> Messages
+        ensures { result ≡ rivals self.now.scenario (tables_by self.now.windows).times }
+    {
+        self.facts.rivals(&self.windows)
+    }
+
+    /// Whether a message is surely behind the target where it arrives at a group at a tick or later, or cannot arrive so
+    /// late. The error is that memory ran out.
+    pub fn is_behind_after(
+        &self,
+        message: usize,
+        group: usize,
+        tick: u32,
+        scratch: &mut Scratch,
+    ) -> Result<bool, AllocError>
+        requires message { message < length self.now.scenario.multicasts }
+        requires few { message < MOST_MULTICASTS }
+        requires group { group < MOST_GROUPS }
+        ensures { IfOk result (λ behind. behind
+            ≡ is_behind_after self.now.scenario self.now.windows message group tick) }
+    {
+        let open = self
+            .facts
+            .open_after(&self.windows, message, group, tick, scratch)?;
+        Ok(open.is_none())
     }
 
     /// What keeps the windows open for a latency in ticks, for which leads have just shown that of them with this

@@ -93,7 +93,7 @@ impl<'a> Facts<'a> {
     /// The first open case of message `n` where it arrives at group `k` at that tick or later. None
     /// where it cannot, or is behind then: at once, or by way of each group whose stamp may keep the
     /// target back until `n` arrives.
-    fn open_after(
+    pub(crate) fn open_after(
         &self,
         windows: &Windows,
         n: usize,

@@ -61,6 +61,7 @@ exchange delay = record {
   tick = None;
   delay = pos delay;
   groups = codes "a" ∷ codes "b" ∷ [];
+  places = [];
   links = [];
   messages = record { name = codes "m"; sender = None; to = codes "a" ∷ codes "b" ∷ []; at = pos 0; until = pos 0 } ∷ [];
   target_message = codes "m";

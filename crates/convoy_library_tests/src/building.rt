@@ -24,6 +24,7 @@ pub fn exchange(alloc: Global, delay: u32) -> Result<Scenario, Fault>
         tick: None,
         delay,
         groups: &["a", "b"],
+        places: &[],
         links: &[],
         messages: &[MessageParts {
             name: "m",

@@ -14,6 +14,7 @@ fn base(alloc: Global) -> Result<Scenario, Fail> {
         tick: None,
         delay: 3,
         groups: &["a", "b"],
+        places: &[],
         links: &[],
         messages: &[
             MessageParts {
@@ -142,6 +143,7 @@ fn own_message(alloc: Global, stamps: bool) -> Result<Scenario, Fail> {
         tick: None,
         delay: 3,
         groups: &["a"],
+        places: &[],
         links: &[LinkParts {
             sender: Some("a"),
             to: "a",

@@ -18,6 +18,7 @@ fn instance_of(
         tick: None,
         delay,
         groups,
+        places: &[],
         links: &[],
         messages,
         target_message: target.0,

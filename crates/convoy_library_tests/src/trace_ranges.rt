@@ -74,6 +74,7 @@ fn pair(alloc: Global) -> Result<Scenario, Fail> {
         tick: None,
         delay: 3,
         groups: &["a", "b"],
+        places: &[],
         links: &[],
         messages: &[MessageParts {
             name: "m",

@@ -14,6 +14,7 @@ fn exchange(alloc: Global) -> Result<Scenario, Fail> {
         tick: None,
         delay: 3,
         groups: &["a", "b"],
+        places: &[],
         links: &[],
         messages: &[MessageParts {
             name: "m",

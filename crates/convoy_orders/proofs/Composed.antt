@@ -6,11 +6,11 @@ use Rattle.convoy_scenario.specs.Scenario.{Scenario, message_at, range_between}
 use Rattle.convoy_orders.specs.Renumbered.{IsRenumbered, renumbered_sender}
 
 sender_twice : (first then : ℕ → ℕ) (sender : Sender) → renumbered_sender then (renumbered_sender first sender) ≡ renumbered_sender (λ g. then (first g)) sender
-sender_twice first then Client = refl
+sender_twice first then (Client p) = refl
 sender_twice first then (Group g) = refl
 
 sender_itself : (sender : Sender) → renumbered_sender (λ g. g) sender ≡ sender
-sender_itself Client = refl
+sender_itself (Client p) = refl
 sender_itself (Group g) = refl
 
 -- a scenario with its groups listed as they are

@@ -5,12 +5,11 @@ use Rattle.std.specs.Option.{is_some, option_map_or}
 use Rattle.std.proofs.lemmas.Bool.{cases_Bool, cases_lt, and_parts}
 use Rattle.std.proofs.lemmas.List.{length-map, get_or-map, get_or_past}
 use Rattle.std.proofs.lemmas.List.Sorted.{IsPermutation-sym, length_permutation}
-use Rattle.std.proofs.lemmas.List.Sums.{AllPass-from_list_all}
 use Rattle.convoy_draft.specs.Draft.{Draft, DraftLink, DraftMessage}
-use Rattle.convoy_draft.specs.Checks.{checks, is_among, is_known_sender, judge, knows, knows_link}
+use Rattle.convoy_draft.specs.Checks.{checks, is_among, is_known_sender, judge, knows_link}
 use Rattle.convoy_scenario.specs.declared.sender.Sender.{Sender}
 use Rattle.convoy_scenario.specs.declared.sender.Sender.TheVariants.{Group}
-use Rattle.convoy_scenario.specs.Scenario.{Link, Scenario, is_same_sender, message_at, no_message, range_between, stamp_takes_time, takes_time}
+use Rattle.convoy_scenario.specs.Scenario.{Link, Message, Scenario, is_same_sender, message_at, no_message, range_between, stamp_takes_time, takes_time}
 use Rattle.convoy_scenario.specs.ScenarioLaws.{OrderKeepsRanges, OrderKeepsWhatTakesTime}
 use Rattle.convoy_scenario.specs.Numbering.{delay_of_draft, link_of, links_of_draft, message_of, place, scenario_of, scenario_of_draft, sender_of}
 use Rattle.convoy_scenario.proofs.GivenScenarios.{given, passed}
@@ -36,7 +35,8 @@ pub record AreHomesOf (draft : Draft) : Type 0 where
   pub stamps : (g : ℕ) → stamp_takes_time (scenario_of draft) g g ≡ (not (g == g) || stamps_of (find (leads (Group g) g) (links_of_draft draft)))
 
 module _ (draft : Draft) (names : List (List ℕ)) (long : length names ≡ length draft.groups)
-    (all : (g : ℕ) → g < length draft.groups → is_among (get_or draft.groups g []) names ≡ true) (is : Passes draft) (too : Passes (relisted names draft))
+    (all : (g : ℕ) → g < length draft.groups → is_among (get_or draft.groups g []) names ≡ true)
+    (no_others : (g : ℕ) → g < length names → is_among (get_or names g []) draft.groups ≡ true) (is : Passes draft) (too : Passes (relisted names draft))
     (kept : AreRangesOf draft) (kept_too : AreRangesOf (relisted names draft)) (homes : AreHomesOf draft) (homes_too : AreHomesOf (relisted names draft)) where
   abbrev plan : Scenario
   plan = scenario_of draft
@@ -53,10 +53,22 @@ module _ (draft : Draft) (names : List (List ℕ)) (long : length names ≡ leng
   again : (g : ℕ) → back (renumber g) ≡ g
   again = number_back draft.groups names long all (groups_distinct draft.groups is.groups_differ)
 
+  abbrev numbered_message : List (List ℕ) → DraftMessage → Message
+  numbered_message groups = message_of groups draft.places
+
+  abbrev numbered_link : List (List ℕ) → DraftLink → Link
+  numbered_link groups = link_of groups draft.places
+
+  abbrev knows_ends : DraftLink → Bool
+  knows_ends = knows_link draft.groups draft.places
+
+  sender_too : (sender : Option (List ℕ)) → sender_of names draft.places sender ≡ renumbered_sender renumber (sender_of draft.groups draft.places sender)
+  sender_too = sender_renumbered draft.groups names long all no_others draft.places
+
   -- ---- messages
-  message_too : (message : DraftMessage) → knows draft.groups message ≡ true → IsRenumberedMessage renumber (message_of draft.groups message) (message_of names message)
-  message_too message known = record {
-    sender = sender_renumbered draft.groups names long all message.sender (and_parts (is_known_sender draft.groups message.sender) (list_all (λ name. is_among name draft.groups) message.to) known).0;
+  message_too : (message : DraftMessage) → IsRenumberedMessage renumber (numbered_message draft.groups message) (numbered_message names message)
+  message_too message = record {
+    sender = sender_too message.sender;
     destinations = addressed_renumbered draft.groups names long all message.to;
     at = refl;
     wait = refl;
@@ -66,37 +78,37 @@ module _ (draft : Draft) (names : List (List ℕ)) (long : length names ≡ leng
   messages_too m = elim (cases_lt m (length draft.messages)) [
     | inl l ↦
         subst₂ (IsRenumberedMessage renumber)
-        (sym (get_or-map (message_of draft.groups) draft.messages m nothing no_message l)) (sym (get_or-map (message_of names) draft.messages m nothing no_message l))
-        (message_too (get_or draft.messages m nothing) (AllPass-from_list_all (knows draft.groups) draft.messages is.known m nothing l))
+        (sym (get_or-map (numbered_message draft.groups) draft.messages m nothing no_message l)) (sym (get_or-map (numbered_message names) draft.messages m nothing no_message l))
+        (message_too (get_or draft.messages m nothing))
     | inr l ↦
-        let few = length-map draft.messages (message_of draft.groups) in
-        let few_too = length-map draft.messages (message_of names) in
+        let few = length-map draft.messages (numbered_message draft.groups) in
+        let few_too = length-map draft.messages (numbered_message names) in
         subst₂ (IsRenumberedMessage renumber)
-        (sym (get_or_past (map (message_of draft.groups) draft.messages) m no_message (omega arith))) (sym (get_or_past (map (message_of names) draft.messages) m no_message (omega arith)))
+        (sym (get_or_past (map (numbered_message draft.groups) draft.messages) m no_message (omega arith))) (sym (get_or_past (map (numbered_message names) draft.messages) m no_message (omega arith)))
         (record { sender = refl; destinations = λ g. refl; at = refl; wait = refl })
   ]
 
   -- ---- links
-  leads_too : (sender : Sender) (to : ℕ) (link : DraftLink) → knows_link draft.groups link ≡ true
-      → leads (renumbered_sender renumber sender) (renumber to) (link_of names link) ≡ leads sender to (link_of draft.groups link)
+  leads_too : (sender : Sender) (to : ℕ) (link : DraftLink) → knows_ends link ≡ true
+      → leads (renumbered_sender renumber sender) (renumber to) (numbered_link names link) ≡ leads sender to (numbered_link draft.groups link)
   leads_too sender to link known =
-      let k = and_parts (is_known_sender draft.groups link.sender) (is_among link.to draft.groups) known in
+      let k = and_parts (is_known_sender draft.groups draft.places link.sender) (is_among link.to draft.groups) known in
       ap₂ (λ (a b : Bool). a && b)
-      (ap (is_same_sender (renumbered_sender renumber sender)) (sender_renumbered draft.groups names long all link.sender k.0)
-      ∙ same_sender renumber back again sender (link_of draft.groups link).sender)
+      (ap (is_same_sender (renumbered_sender renumber sender)) (sender_too link.sender)
+      ∙ same_sender renumber back again sender (numbered_link draft.groups link).sender)
       (ap (λ n. renumber to == n) (number_of_name draft.groups names long all link.to k.1) ∙ same_number renumber back again to (place link.to draft.groups))
 
   -- what is told alike of a link with its groups listed either way is told alike of the link that is found
   module _ {A : Type 0} (told : Option Link → A)
-      (alike : (link : DraftLink) → knows_link draft.groups link ≡ true → told (Some (link_of names link)) ≡ told (Some (link_of draft.groups link))) where
-    found_too : (sender : Sender) (to : ℕ) (links : List DraftLink) → list_all (knows_link draft.groups) links ≡ true
-        → told (find (leads (renumbered_sender renumber sender) (renumber to)) (map (link_of names) links)) ≡ told (find (leads sender to) (map (link_of draft.groups) links))
+      (alike : (link : DraftLink) → knows_ends link ≡ true → told (Some (numbered_link names link)) ≡ told (Some (numbered_link draft.groups link))) where
+    found_too : (sender : Sender) (to : ℕ) (links : List DraftLink) → list_all knows_ends links ≡ true
+        → told (find (leads (renumbered_sender renumber sender) (renumber to)) (map (numbered_link names) links)) ≡ told (find (leads sender to) (map (numbered_link draft.groups) links))
     found_too sender to [] known = refl
     found_too sender to (link ∷ links) known =
-        let k = and_parts (knows_link draft.groups link) (list_all (knows_link draft.groups) links) known in
+        let k = and_parts (knows_ends link) (list_all knows_ends links) known in
         let rest = found_too sender to links k.1 in
         let same = leads_too sender to link k.0 in
-        elim (cases_Bool (leads sender to (link_of draft.groups link))) [
+        elim (cases_Bool (leads sender to (numbered_link draft.groups link))) [
           | inl there ↦ rw (same, there) (alike link k.0)
           | inr elsewhere ↦ rw (same, elsewhere) rest
         ]
@@ -108,12 +120,12 @@ module _ (draft : Draft) (names : List (List ℕ)) (long : length names ≡ leng
       ∙ sym (kept sender to)
 
   -- a link is for stamps with its groups listed either way
-  stamps_too : (link : DraftLink) → knows_link draft.groups link ≡ true → (link_of names link).stamps ≡ (link_of draft.groups link).stamps
+  stamps_too : (link : DraftLink) → knows_ends link ≡ true → (numbered_link names link).stamps ≡ (numbered_link draft.groups link).stamps
   stamps_too link known =
-      let k = and_parts (is_known_sender draft.groups link.sender) (is_among link.to draft.groups) known in
+      let k = and_parts (is_known_sender draft.groups draft.places link.sender) (is_among link.to draft.groups) known in
       ap (λ (home : Bool). link.stamps && home)
-      (ap₂ (λ (s : Sender) (to : ℕ). is_same_sender s (Group to)) (sender_renumbered draft.groups names long all link.sender k.0) (number_of_name draft.groups names long all link.to k.1)
-      ∙ same_sender renumber back again (sender_of draft.groups link.sender) (Group (place link.to draft.groups)))
+      (ap₂ (λ (s : Sender) (to : ℕ). is_same_sender s (Group to)) (sender_too link.sender) (number_of_name draft.groups names long all link.to k.1)
+      ∙ same_sender renumber back again (sender_of draft.groups draft.places link.sender) (Group (place link.to draft.groups)))
 
   same_homes : HaveRenumberedHomes renumber plan other
   same_homes = record {
@@ -127,19 +139,18 @@ module _ (draft : Draft) (names : List (List ℕ)) (long : length names ≡ leng
         ∙ sym (homes.stamps g);
   }
 
-  module _ (no_others : (g : ℕ) → g < length names → is_among (get_or names g []) draft.groups ≡ true) where
-    pub renumbered_too : IsRenumbered renumber back plan other
-    renumbered_too = record {
-      back_again = again;
-      there_again = number_back names draft.groups (sym long) no_others (groups_distinct names too.groups_differ);
-      time = refl;
-      message_count = length-map draft.messages (message_of names) ∙ sym (length-map draft.messages (message_of draft.groups));
-      messages = messages_too;
-      homes = same_homes;
-      ranges = range_too;
-      target_message = refl;
-      target_group = number_of_name draft.groups names long all draft.target_group is.target_group;
-    }
+  pub renumbered_too : IsRenumbered renumber back plan other
+  renumbered_too = record {
+    back_again = again;
+    there_again = number_back names draft.groups (sym long) no_others (groups_distinct names too.groups_differ);
+    time = refl;
+    message_count = length-map draft.messages (numbered_message names) ∙ sym (length-map draft.messages (numbered_message draft.groups));
+    messages = messages_too;
+    homes = same_homes;
+    ranges = range_too;
+    target_message = refl;
+    target_group = number_of_name draft.groups names long all draft.target_group is.target_group;
+  }
 
 -- a draft that gives a scenario gives the one that it is with numbers, and keeps the rules
 pub record IsGiven (draft : Draft) (plan : Scenario) : Type 0 where
@@ -168,4 +179,4 @@ drafts_renumbered kept takes draft names plan other of =
     let its = is_given kept takes (relisted names draft) other of.other_is in
     subst₂ (IsRenumbered (number_in names draft.groups) (number_in draft.groups names)) mine.made its.made
     (renumbered_too draft names (length_permutation draft.groups names of.same) (λ g l. all_among names draft.groups (IsPermutation-sym draft.groups names of.same) g [] l)
-    mine.passes its.passes mine.kept its.kept mine.homes its.homes (λ g l. all_among draft.groups names of.same g [] l))
+    (λ g l. all_among draft.groups names of.same g [] l) mine.passes its.passes mine.kept its.kept mine.homes its.homes)

@@ -5,7 +5,7 @@ use Rattle.std.specs.List.Sorted.{IsPermutation}
 use Rattle.std.specs.Str.{bytes_eq}
 use Rattle.std.proofs.lemmas.List.Sorted.{All-permutation}
 use Rattle.std.proofs.lemmas.Bool.{cases_Bool, cases_lt, cond-true, cond-false, lt-ltb, le-ltb, and_from, and_parts, ltb-true, eqb-true, both_ways, false_from_ne_true}
-use Rattle.convoy_draft.specs.Checks.{is_among, is_known_sender}
+use Rattle.convoy_draft.specs.Checks.{is_among}
 use Rattle.convoy_scenario.specs.declared.sender.Sender.TheVariants.{Group}
 use Rattle.convoy_scenario.specs.Numbering.{place, numbers_of, sender_of}
 use Rattle.convoy_scenario.proofs.NumberLemmas.{numbers_have}
@@ -20,6 +20,18 @@ pub all_among : (groups names : List (List ℕ)) → IsPermutation groups names 
 all_among groups names same =
     All-permutation (λ name. is_among name groups ≡ true) groups names same
     (λ g d l. any_at (bytes_eq (get_or groups g d)) groups g d l (itself (get_or groups g d)))
+
+-- a name of one list is one of another, where all of the one are in the other
+known_there : (xs ys : List (List ℕ)) → ((g : ℕ) → g < length xs → is_among (get_or xs g []) ys ≡ true) → (name : List ℕ) → is_among name xs ≡ true → is_among name ys ≡ true
+known_there xs ys all name known = subst (λ n. is_among n ys ≡ true) (name_at_place name xs known) (all (place name xs) (place_within (bytes_eq name) xs known))
+
+-- so lists of which each has all names of the other have the same names
+pub among_alike : (xs ys : List (List ℕ)) → ((g : ℕ) → g < length xs → is_among (get_or xs g []) ys ≡ true) → ((g : ℕ) → g < length ys → is_among (get_or ys g []) xs ≡ true)
+    → (name : List ℕ) → is_among name ys ≡ is_among name xs
+among_alike xs ys all no_others name = elim (cases_Bool (is_among name xs)) [
+  | inl known ↦ known_there xs ys all name known ∙ sym known
+  | inr none ↦ false_from_ne_true _ (λ known. both_ways _ none (known_there ys xs no_others name known)) ∙ sym none
+]
 
 -- which numbers are those of some names
 pub numbers_tell : (groups named : List (List ℕ)) (g : ℕ)
@@ -57,10 +69,16 @@ module _ (groups names : List (List ℕ)) (long : length names ≡ length groups
       let l = place_within (bytes_eq name) groups known in
       ap (λ n. place n names) (sym (name_at_place name groups known)) ∙ sym (number_is (place name groups) l)
 
-  pub sender_renumbered : (sender : Option (List ℕ)) → is_known_sender groups sender ≡ true
-      → sender_of names sender ≡ renumbered_sender (number_in names groups) (sender_of groups sender)
-  sender_renumbered None known = refl
-  sender_renumbered (Some name) known = ap (λ g. Group g) (number_of_name name known)
+  -- a sender that is a group has its number, and a place stays where it is
+  pub sender_renumbered : ((g : ℕ) → g < length names → is_among (get_or names g []) groups ≡ true) → (places : List (List ℕ)) (sender : Option (List ℕ))
+      → sender_of names places sender ≡ renumbered_sender (number_in names groups) (sender_of groups places sender)
+  sender_renumbered no_others places None = refl
+  sender_renumbered no_others places (Some name) =
+      let alike = among_alike groups names all no_others name in
+      elim (cases_Bool (is_among name groups)) [
+        | inl known ↦ let there = alike ∙ known in rw (there, known) (ap (λ g. Group g) (number_of_name name known))
+        | inr none ↦ let nowhere = alike ∙ none in rw (nowhere, none) refl
+      ]
 
   pub addressed_renumbered : (named : List (List ℕ)) (g : ℕ)
       → list_any (λ h. h == number_in names groups g) (numbers_of names named) ≡ list_any (λ h. h == g) (numbers_of groups named)

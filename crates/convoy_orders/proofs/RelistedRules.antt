@@ -1,5 +1,5 @@
 -- The rules for a scenario hold of a draft with its groups listed in another order.
-use Rattle.std.proofs.Common.{◌≡◌, ℕ, zero, suc, ◌&&◌, Bool, true, false, nat_le, drop, get_or, map, List, [], ◌∷◌, inl, inr, Option, Some, None, Ok, refl, sym, ap, ◌∙◌, arith}
+use Rattle.std.proofs.Common.{◌≡◌, ℕ, zero, suc, ◌&&◌, ◌||◌, not, Bool, true, false, nat_le, drop, get_or, map, List, [], ◌∷◌, inl, inr, Option, Some, None, Ok, refl, sym, ap, ◌∙◌, arith}
 use Rattle.std.specs.List.{list_all, AllByRecursion, IsDistinct}
 use Rattle.std.specs.List.Sorted.{IsPermutation}
 use Rattle.std.specs.Str.{bytes_eq}
@@ -11,7 +11,7 @@ use Rattle.std.proofs.lemmas.Map.Keys.{IsDistinct-IsPermutation}
 use Rattle.convoy_draft.specs.Draft.{Draft, DraftLink, DraftMessage}
 use Rattle.convoy_draft.specs.declared.limits.TheConstants.{MOST_GROUPS}
 use Rattle.convoy_draft.specs.Names.{is_group_name}
-use Rattle.convoy_draft.specs.Checks.{Check, all_differ, checks, is_among, is_count, is_known_sender, judge, knows, knows_link, reference_checks}
+use Rattle.convoy_draft.specs.Checks.{Check, all_differ, checks, is_among, is_count, is_known_sender, judge, knows, knows_link, places_differ, reference_checks}
 use Rattle.convoy_scenario.specs.Numbering.{message_of, scenario_of}
 use Rattle.convoy_scenario.specs.Room.{HasRoom}
 use Rattle.convoy_scenario.specs.Scenario.{no_message}
@@ -19,9 +19,8 @@ use Rattle.convoy_scenario.proofs.GivenScenarios.{given, passed}
 use Rattle.convoy_scenario.proofs.NumberedAgain.{itself, same_bytes}
 use Rattle.convoy_scenario.proofs.NumberedLemmas.{all_hold, groups_distinct}
 use Rattle.convoy_scenario.proofs.RoomLemmas.{room_from, room_told}
-use Rattle.convoy_sim.proofs.Membership.{all-in, in_of_list_any}
 use Rattle.convoy_orders.specs.Relisted.{relisted, RelistedDraftsGiveScenarios}
-use Rattle.convoy_orders.proofs.RelistedNames.{all_among}
+use Rattle.convoy_orders.proofs.RelistedNames.{all_among, among_alike}
 
 judged : (cs : List Check) → AllByRecursion (λ c. c.0 ≡ true) cs → judge cs ≡ Ok tt
 judged [] all = refl
@@ -50,25 +49,31 @@ either_way a b = elim (cases_Bool (bytes_eq a b)) [
 ]
 
 module _ (groups names : List (List ℕ)) (same : IsPermutation groups names) where
+  among_same : (name : List ℕ) → is_among name names ≡ is_among name groups
+  among_same = among_alike groups names (λ g l. all_among names groups (IsPermutation-sym groups names same) g [] l) (λ g l. all_among groups names same g [] l)
+
   among_too : (name : List ℕ) → is_among name groups ≡ true → is_among name names ≡ true
-  among_too name known =
-      let r = in_of_list_any (bytes_eq name) groups known in
-      let is : name ≡ r.0 = same_bytes name r.0 r.2 in
-      ap (λ n. is_among n names) is ∙ all-in (λ n. is_among n names ≡ true) r.0 groups (all_among names groups (IsPermutation-sym groups names same)) r.1
+  among_too name known = among_same name ∙ known
 
-  sender_too : (sender : Option (List ℕ)) → is_known_sender groups sender ≡ true → is_known_sender names sender ≡ true
-  sender_too None known = refl
-  sender_too (Some name) known = among_too name known
+  sender_too : (places : List (List ℕ)) (sender : Option (List ℕ)) → is_known_sender groups places sender ≡ true → is_known_sender names places sender ≡ true
+  sender_too places None known = refl
+  sender_too places (Some name) known = ap (λ (b : Bool). b || is_among name places) (among_same name) ∙ known
 
-  knows_too : (message : DraftMessage) → knows groups message ≡ true → knows names message ≡ true
-  knows_too message known =
-      let parts = and_parts (is_known_sender groups message.sender) (list_all (λ name. is_among name groups) message.to) known in
-      and_from _ _ (sender_too message.sender parts.0) (all_too (λ name. is_among name groups) (λ name. is_among name names) message.to among_too parts.1)
+  knows_too : (places : List (List ℕ)) (message : DraftMessage) → knows groups places message ≡ true → knows names places message ≡ true
+  knows_too places message known =
+      let parts = and_parts (is_known_sender groups places message.sender) (list_all (λ name. is_among name groups) message.to) known in
+      and_from _ _ (sender_too places message.sender parts.0) (all_too (λ name. is_among name groups) (λ name. is_among name names) message.to among_too parts.1)
 
-  link_too : (link : DraftLink) → knows_link groups link ≡ true → knows_link names link ≡ true
-  link_too link known =
-      let parts = and_parts (is_known_sender groups link.sender) (is_among link.to groups) known in
-      and_from _ _ (sender_too link.sender parts.0) (among_too link.to parts.1)
+  link_too : (places : List (List ℕ)) (link : DraftLink) → knows_link groups places link ≡ true → knows_link names places link ≡ true
+  link_too places link known =
+      let parts = and_parts (is_known_sender groups places link.sender) (is_among link.to groups) known in
+      and_from _ _ (sender_too places link.sender parts.0) (among_too link.to parts.1)
+
+  places_too : (places : List (List ℕ)) → places_differ groups places ≡ true → places_differ names places ≡ true
+  places_too places differ =
+      let parts = and_parts (all_differ places) (list_all (λ name. not (is_among name groups)) places) differ in
+      and_from _ _ parts.0
+      (all_too (λ name. not (is_among name groups)) (λ name. not (is_among name names)) places (λ name apart. ap not (among_same name) ∙ apart) parts.1)
 
   are_names : list_all is_group_name groups ≡ true → list_all is_group_name names ≡ true
   are_names are =
@@ -81,36 +86,37 @@ module _ (groups names : List (List ℕ)) (same : IsPermutation groups names) wh
 rules_hold : (draft : Draft) (names : List (List ℕ)) → IsPermutation draft.groups names → judge (checks draft) ≡ Ok tt → judge (checks (relisted names draft)) ≡ Ok tt
 rules_hold draft names same h =
     let limits = all_hold (checks draft) h in
-    let named = limits.1.1.1.1.1.1.1 in
-    let known = named.1.1.1.1.1 in
+    let named = limits.1.1.1.1.1.1.1.1 in
+    let known = named.1.1.1.1.1.1.1 in
     let count : is_count MOST_GROUPS names ≡ true = ap (λ n. nat_le 1 n && nat_le n MOST_GROUPS) (length_permutation draft.groups names same) ∙ limits.1.0 in
-    let differ = differ_too draft.groups names same named.1.1.0 in
+    let differ = differ_too draft.groups names same named.1.1.1.0 in
+    let apart = places_too draft.groups names same draft.places named.1.1.1.1.0 in
     let names_are = are_names draft.groups names same named.0 in
-    let messages = all_too (knows draft.groups) (knows names) draft.messages (knows_too draft.groups names same) known.0 in
+    let messages = all_too (knows draft.groups draft.places) (knows names draft.places) draft.messages (knows_too draft.groups names same draft.places) known.0 in
     let target = among_too draft.groups names same draft.target_group known.1.0 in
-    let links = all_too (knows_link draft.groups) (knows_link names) draft.links (link_too draft.groups names same) known.1.1.0 in
+    let links = all_too (knows_link draft.groups draft.places) (knows_link names draft.places) draft.links (link_too draft.groups names same draft.places) known.1.1.0 in
     let others = judged (drop 3 (reference_checks draft)) known.1.1.1 in
-    rw (limits.0, count, limits.1.1.0, limits.1.1.1.0, limits.1.1.1.1.0, limits.1.1.1.1.1.0, limits.1.1.1.1.1.1.0)
-    (rw (names_are, named.1.0, differ, named.1.1.1.0, named.1.1.1.1.0, messages, target, links) others)
+    rw (limits.0, count, limits.1.1.0, limits.1.1.1.0, limits.1.1.1.1.0, limits.1.1.1.1.1.0, limits.1.1.1.1.1.1.0, limits.1.1.1.1.1.1.1.0)
+    (rw (names_are, named.1.0, named.1.1.0, differ, apart, named.1.1.1.1.1.0, named.1.1.1.1.1.1.0, messages, target, links) others)
 
 -- messages are issued at the same ticks, whatever the order of the groups
-times_too : (groups names : List (List ℕ)) (messages : List DraftMessage) (m : ℕ)
-    → ((get_or (map (message_of names) messages) m no_message).at ≡ (get_or (map (message_of groups) messages) m no_message).at)
-    × ((get_or (map (message_of names) messages) m no_message).longest_wait ≡ (get_or (map (message_of groups) messages) m no_message).longest_wait)
-times_too groups names [] m = (refl, refl)
-times_too groups names (message ∷ messages) zero = (refl, refl)
-times_too groups names (message ∷ messages) (suc m) = times_too groups names messages m
+times_too : (groups names places : List (List ℕ)) (messages : List DraftMessage) (m : ℕ)
+    → ((get_or (map (message_of names places) messages) m no_message).at ≡ (get_or (map (message_of groups places) messages) m no_message).at)
+    × ((get_or (map (message_of names places) messages) m no_message).longest_wait ≡ (get_or (map (message_of groups places) messages) m no_message).longest_wait)
+times_too groups names places [] m = (refl, refl)
+times_too groups names places (message ∷ messages) zero = (refl, refl)
+times_too groups names places (message ∷ messages) (suc m) = times_too groups names places messages m
 
 -- so the target has as much room
 room_too : (draft : Draft) (names : List (List ℕ)) → HasRoom (scenario_of draft) → HasRoom (scenario_of (relisted names draft))
 room_too draft names room =
-    let at = times_too draft.groups names draft.messages (scenario_of draft).target_message in
+    let at = times_too draft.groups names draft.places draft.messages (scenario_of draft).target_message in
     let last = room.last in
     record {
       last = omega (arith, at.0, at.1, last);
       others = λ m d l.
-          let here = times_too draft.groups names draft.messages m in
-          let most = room.others m d (omega (arith, l, length-map draft.messages (message_of names), length-map draft.messages (message_of draft.groups))) in
+          let here = times_too draft.groups names draft.places draft.messages m in
+          let most = room.others m d (omega (arith, l, length-map draft.messages (message_of names draft.places), length-map draft.messages (message_of draft.groups draft.places))) in
           omega (arith, here.1, at.1, most);
     }
 

@@ -23,11 +23,11 @@ module _ (renumber back : ℕ → ℕ) (again : (g : ℕ) → back (renumber g) 
   ]
 
   pub sender_again : (sender : Sender) → renumbered_sender back (renumbered_sender renumber sender) ≡ sender
-  sender_again Client = refl
+  sender_again (Client p) = refl
   sender_again (Group g) = ap (λ h. Group h) (again g)
 
   pub same_sender : (sender other : Sender) → is_same_sender (renumbered_sender renumber sender) (renumbered_sender renumber other) ≡ is_same_sender sender other
-  same_sender Client Client = refl
-  same_sender Client (Group h) = refl
-  same_sender (Group g) Client = refl
+  same_sender (Client p) (Client q) = refl
+  same_sender (Client p) (Group h) = refl
+  same_sender (Group g) (Client q) = refl
   same_sender (Group g) (Group h) = same_number g h

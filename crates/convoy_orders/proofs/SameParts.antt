@@ -29,7 +29,7 @@ module _ (renumber back : ℕ → ℕ) (plan other : Scenario) (is : IsRenumbere
 
   -- ---- what takes time
   pub takes_too : (sender : Sender) (to : ℕ) → takes_time other (renumbered_sender renumber sender) (renumber to) ≡ takes_time plan sender to
-  takes_too Client to = refl
+  takes_too (Client p) to = refl
   takes_too (Group g) to = elim (cases_Bool (g == to)) [
     | inl home ↦
         subst (λ (k : ℕ). takes_time other (Group (renumber k)) (renumber to) ≡ takes_time plan (Group k) to) (sym (eqb-true g to home)) (is.homes.messages to)

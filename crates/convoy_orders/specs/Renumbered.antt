@@ -4,9 +4,9 @@ use Rattle.convoy_scenario.specs.declared.sender.Sender.{Sender}
 use Rattle.convoy_scenario.specs.declared.sender.Sender.TheVariants.{Client, Group}
 use Rattle.convoy_scenario.specs.Scenario.{Message, Scenario, message_at, is_addressed, range_between, stamp_takes_time, takes_time}
 
--- the sender, where each group goes by another number
+-- the sender, where each group goes by another number; clients stay where they are
 abbrev pub renumbered_sender : (ℕ → ℕ) → Sender → Sender
-renumbered_sender renumber Client = Client
+renumbered_sender renumber (Client p) = Client p
 renumbered_sender renumber (Group g) = Group (renumber g)
 
 -- the messages are one but for the numbers of groups: one sender, the same destinations, in whatever order, and the same times of issue

@@ -24,7 +24,7 @@ module _ (plan : Scenario) (ranges : Box) (is : IsBox plan ranges) where
   wait_fits well m sent =
       let there = waits_there plan (widened plan) (is_widened plan) m sent in
       let many = (is_widened plan).alike.count in
-      let message = All-get_or (IsMulticast (length (widened plan).groups)) (widened plan).multicasts m no_message (omega (arith, many, there.1)) well.messages in
+      let message = All-get_or (IsMulticast (length (widened plan).groups) (length (widened plan).places)) (widened plan).multicasts m no_message (omega (arith, many, there.1)) well.messages in
       let longest = message.wait in
       let inside = (range_inside plan ranges (Wait m) is sent).2 in
       omega arith

@@ -30,7 +30,7 @@ use Rattle.convoy_origin.specs.WidenedRegions.{widened_region}
 -- x from a client to b at tick 0, t from a client to a and b, issued at tick 0 or 1, and y from a to a and b at tick 6
 unfoldable open_start : Scenario
 open_start =
-    of_two Ticks 3 (message (codes "x") Client (1 ∷ []) 0 ∷ record (message (codes "t") Client (0 ∷ 1 ∷ []) 0) { longest_wait = 1 }
+    of_two Ticks 3 (message (codes "x") (Client 0) (1 ∷ []) 0 ∷ record (message (codes "t") (Client 0) (0 ∷ 1 ∷ []) 0) { longest_wait = 1 }
     ∷ message (codes "y") (Group 0) (0 ∷ 1 ∷ []) 6 ∷ []) 1 0
 
 -- where t is issued at tick 1 it is delivered 11 ticks later ..
@@ -94,7 +94,7 @@ root_stays_open = refl
 -- ---- with t at tick 1, and x and y at their ticks alone, each would be 11, which is exceeded
 unfoldable others_as_they_are : Scenario
 others_as_they_are =
-    of_two Ticks 3 (message (codes "x") Client (1 ∷ []) 0 ∷ message (codes "t") Client (0 ∷ 1 ∷ []) 1
+    of_two Ticks 3 (message (codes "x") (Client 0) (1 ∷ []) 0 ∷ message (codes "t") (Client 0) (0 ∷ 1 ∷ []) 1
     ∷ message (codes "y") (Group 0) (0 ∷ 1 ∷ []) 6 ∷ []) 1 0
 
 plain_too_low : plain_bound others_as_they_are (root_of others_as_they_are) ≡ 11
@@ -121,7 +121,7 @@ plain_of_early = refl
 -- ---- other targets, and the widened scenario: x is issued at tick 0, t may wait so long from then, and y so long from tick 6
 abbrev both_wait : ℕ → ℕ → Scenario
 both_wait y t =
-    of_two Ticks 3 (message (codes "x") Client (1 ∷ []) 0 ∷ record (message (codes "t") Client (0 ∷ 1 ∷ []) 0) { longest_wait = t }
+    of_two Ticks 3 (message (codes "x") (Client 0) (1 ∷ []) 0 ∷ record (message (codes "t") (Client 0) (0 ∷ 1 ∷ []) 0) { longest_wait = t }
     ∷ record (message (codes "y") (Group 0) (0 ∷ 1 ∷ []) 6) { longest_wait = y } ∷ []) 1 0
 
 -- x alone has room where the windows of t and y are too long together
@@ -135,7 +135,7 @@ all_targets = refl
 
 -- t is issued at 2, and each other message may wait 2 ticks longer
 target_at_its_end : widened (both_wait 3 2)
-    ≡ of_two Ticks 3 (record (message (codes "x") Client (1 ∷ []) 0) { longest_wait = 2 } ∷ message (codes "t") Client (0 ∷ 1 ∷ []) 2
+    ≡ of_two Ticks 3 (record (message (codes "x") (Client 0) (1 ∷ []) 0) { longest_wait = 2 } ∷ message (codes "t") (Client 0) (0 ∷ 1 ∷ []) 2
     ∷ record (message (codes "y") (Group 0) (0 ∷ 1 ∷ []) 6) { longest_wait = 5 } ∷ []) 1 0
 unfolding widened message
 target_at_its_end = refl

@@ -17,6 +17,7 @@ module _ (factor span : ℕ) (plan : Scenario) where
     tick = plan.tick;
     delay = pos delay;
     groups = plan.groups;
+    places = plan.places;
     links = map (draft_link plan) (map (compressed_link factor span) plan.links);
     messages = map (draft_message plan) (map (message_saved ticks (message_at plan plan.target_message)) plan.multicasts);
     target_message = (message_at plan plan.target_message).name;

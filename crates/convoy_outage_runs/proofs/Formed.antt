@@ -37,8 +37,8 @@ module _ (factor span : ℕ) (some : 1 ≤ factor) where
       let all : link.least / factor ≡ link.least = ap (λ n. link.least / n) one ∙ omega arith in
       and_from _ _ (and_from _ _ (eq-eqb link.least 1 (omega (arith, low, same_least, all))) (eq-eqb link.most delay (omega (arith, one, same_most)))) outer.1
 
-  pub link_formed : (groups delay : ℕ) (link : Link) → IsLink groups delay link → IsLink groups (grown delay) (compressed_link factor span link)
-  link_formed groups delay link is =
+  pub link_formed : (groups places delay : ℕ) (link : Link) → IsLink groups places delay link → IsLink groups places (grown delay) (compressed_link factor span link)
+  link_formed groups places delay link is =
       let least = least_within link.least is.low in
       record {
         sender = is.sender;
@@ -73,9 +73,9 @@ unfolding IsDistinct
 names_differ saved target [] h = tt
 names_differ saved target (x ∷ xs) h = (others_differ saved target xs x.name h.0, names_differ saved target xs h.1)
 
-message_formed : (groups saved : ℕ) (target message : Message) → IsMulticast groups message → nat_le (message_saved saved target message).longest_wait LONGEST_WAIT ≡ true
-    → IsMulticast groups (message_saved saved target message)
-message_formed groups saved target message is short = record {
+message_formed : (groups places saved : ℕ) (target message : Message) → IsMulticast groups places message → nat_le (message_saved saved target message).longest_wait LONGEST_WAIT ≡ true
+    → IsMulticast groups places (message_saved saved target message)
+message_formed groups places saved target message is short = record {
   name = is.name;
   sender = is.sender;
   destinations = is.destinations;
@@ -117,16 +117,16 @@ module _ (factor span : ℕ) (plan : Scenario) (is : IsScenario plan) (real : pl
   message_is : (m : ℕ) → m < length plan.multicasts → get_or (map (message_saved saved target) plan.multicasts) m no_message ≡ message_saved saved target (message_at plan m)
   message_is m l = get_or-map (message_saved saved target) plan.multicasts m no_message no_message l
 
-  messages_formed : All (IsMulticast (length plan.groups)) (map (message_saved saved target) plan.multicasts)
+  messages_formed : All (IsMulticast (length plan.groups) (length plan.places)) (map (message_saved saved target) plan.multicasts)
   unfolding compressed
   messages_formed =
-      All-from_get_or (IsMulticast (length plan.groups)) (map (message_saved saved target) plan.multicasts) no_message
+      All-from_get_or (IsMulticast (length plan.groups) (length plan.places)) (map (message_saved saved target) plan.multicasts) no_message
       (λ m l.
       let known : m < length plan.multicasts = omega (arith, l, many) in
-      let old = All-get_or (IsMulticast (length plan.groups)) plan.multicasts m no_message known is.messages in
+      let old = All-get_or (IsMulticast (length plan.groups) (length plan.places)) plan.multicasts m no_message known is.messages in
       let short = AllPass-from_list_all (λ message. nat_le message.longest_wait LONGEST_WAIT) made.multicasts waits m no_message l in
-      subst (IsMulticast (length plan.groups)) (sym (message_is m known))
-      (message_formed (length plan.groups) saved target (message_at plan m) old (ap (λ (x : Message). nat_le x.longest_wait LONGEST_WAIT) (sym (message_is m known)) ∙ short)))
+      subst (IsMulticast (length plan.groups) (length plan.places)) (sym (message_is m known))
+      (message_formed (length plan.groups) (length plan.places) saved target (message_at plan m) old (ap (λ (x : Message). nat_le x.longest_wait LONGEST_WAIT) (sym (message_is m known)) ∙ short)))
 
   well_formed : IsScenario made
   unfolding compressed
@@ -137,12 +137,16 @@ module _ (factor span : ℕ) (plan : Scenario) (is : IsScenario plan) (real : pl
     tick = is.tick;
     groups_low = is.groups_low;
     groups_high = is.groups_high;
+    places_high = is.places_high;
     multicasts_low = subst (λ n. 1 ≤ n) (sym many) is.multicasts_low;
     multicasts_high = subst (λ n. n ≤ MOST_MULTICASTS) (sym many) is.multicasts_high;
     group_names = is.group_names;
     group_names_differ = is.group_names_differ;
+    place_names = is.place_names;
+    place_names_differ = is.place_names_differ;
+    places_apart = is.places_apart;
     message_names_differ = names_differ saved target plan.multicasts is.message_names_differ;
-    links = All-map (IsLink (length plan.groups) made.delay) (compressed_link factor span) plan.links (λ i d l. link_formed factor span some (length plan.groups) plan.delay _ (is.links i d l));
+    links = All-map (IsLink (length plan.groups) (length plan.places) made.delay) (compressed_link factor span) plan.links (λ i d l. link_formed factor span some (length plan.groups) (length plan.places) plan.delay _ (is.links i d l));
     ascending = ascend factor span some None plan.links ∙ is.ascending;
     messages = messages_formed;
     target = subst (λ n. plan.target_message < n) (sym many) is.target;

@@ -84,7 +84,7 @@ module _ (fine : ℕ) (plan : Scenario) where
       let from = in_of_map (away_link fine plan) found.0 others (in_of_find leading found.0 (map (away_link fine plan) others) found.1).0 in
       (found.0, found.1, sym (ap (λ (l : Link). (l.least, l.most)) {x = away_link fine plan from.0} from.2)) where
         same_itself : (sender : Sender) → is_same_sender sender sender ≡ true
-        same_itself Client = refl
+        same_itself (Client p) = eq-eqb p p refl
         same_itself (Group g) = eq-eqb g g refl
 
   -- the range of what is found, or of what has no link

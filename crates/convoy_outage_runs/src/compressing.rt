@@ -27,7 +27,7 @@ use convoy_outages::Span;
 use convoy_packets::{Instance, Packet};
 use convoy_scenario::lookup::{first_tick, window};
 use convoy_scenario::naming::{
-    draft_destinations, draft_group, draft_groups, draft_sender, message_name,
+    draft_destinations, draft_group, draft_groups, draft_places, draft_sender, message_name,
 };
 use convoy_scenario::scenario_laws::scenarios_have_drafts;
 use convoy_scenario::{
@@ -238,6 +238,7 @@ fn draft_compressed(
         tick: scenario.tick(),
         delay: i64::from(compressed_delay(scenario, factor, span)),
         groups: draft_groups(alloc, scenario)?,
+        places: draft_places(alloc, scenario)?,
         links: links_compressed(alloc, scenario, factor, span)?,
         multicasts: messages_saved(alloc, scenario, saved)?,
         target_message: Name::new(alloc, message_name(scenario, scenario.target_message()))?,

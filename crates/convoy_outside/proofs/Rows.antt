@@ -19,10 +19,10 @@ b = codes "b"
 
 -- a client's message to a and b, which may wait
 abbrev message : Message
-message = record { name = codes "t"; sender = Client; destinations = 0 ∷ 1 ∷ []; at = 0; longest_wait = 4 }
+message = record { name = codes "t"; sender = Client 0; destinations = 0 ∷ 1 ∷ []; at = 0; longest_wait = 4 }
 
 abbrev scenario : Scenario
-scenario = record { time = Real; tick = None; delay = 3; groups = a ∷ b ∷ []; links = []; multicasts = message ∷ []; target_message = 0; target_group = 0 }
+scenario = record { time = Real; tick = None; delay = 3; groups = a ∷ b ∷ []; places = []; links = []; multicasts = message ∷ []; target_message = 0; target_group = 0 }
 
 -- from the clients to both groups, and between these
 abbrev from_clients : ℕ → LinkShare
@@ -34,6 +34,16 @@ between billionths = record { ends = record { senders = Some (a ∷ []); to = b 
 of_each : (share_of (from_clients 2 ∷ between 3 ∷ []) scenario (Multicast 0 1) ≡ 2) × (share_of (from_clients 2 ∷ between 3 ∷ []) scenario (Propose 0 0 1) ≡ 3)
     × (share_of (from_clients 2 ∷ between 3 ∷ []) scenario (Propose 0 1 0) ≡ 3) × (share_of (from_clients 2 ∷ between 3 ∷ []) scenario (Wait 0) ≡ 0)
 of_each = (refl, refl, refl, refl)
+
+-- a client at a place, from which links of their own lead
+abbrev at_place : Scenario
+at_place = record scenario { places = codes "eu" ∷ []; multicasts = record message { sender = Client 1 } ∷ [] }
+
+abbrev from_place : ℕ → LinkShare
+from_place billionths = record { ends = record { senders = Some (codes "eu" ∷ []); to = a ∷ b ∷ []; both = false }; billionths = billionths }
+
+of_place : (share_of (from_clients 2 ∷ from_place 4 ∷ []) at_place (Multicast 0 1) ≡ 4) × (share_of (from_clients 2 ∷ []) at_place (Multicast 0 1) ≡ 0)
+of_place = (refl, refl)
 
 -- two packets of the client's, and two stamps
 sum_of_all : outside_told (from_clients 2 ∷ between 3 ∷ []) scenario ≡ Some 10

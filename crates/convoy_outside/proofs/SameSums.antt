@@ -54,9 +54,9 @@ pointwise : (f g : Packet → ℕ) → ((p : Packet) → f p ≡ g p) → (ps : 
 pointwise f g same [] = refl
 pointwise f g same (p ∷ ps) = omega (arith, sum_by-cons f p ps, sum_by-cons g p ps, same p, pointwise f g same ps)
 
-module _ (times : ℕ) (shares : List LinkShare) (scenario finer : Scenario) (is : IsFiner times scenario finer) (groups : finer.groups ≡ scenario.groups) where
+module _ (times : ℕ) (shares : List LinkShare) (scenario finer : Scenario) (is : IsFiner times scenario finer) (groups : finer.groups ≡ scenario.groups) (places : finer.places ≡ scenario.places) where
   same_name : (sender : Sender) → sender_name finer sender ≡ sender_name scenario sender
-  same_name Client = refl
+  same_name (Client p) = rw places refl
   same_name (Group g) = rw groups refl
 
   same_share : (packet : Packet) → share_of shares finer packet ≡ share_of shares scenario packet
@@ -74,6 +74,6 @@ module _ (times : ℕ) (shares : List LinkShare) (scenario finer : Scenario) (is
       ∙ sums_in (share_of shares scenario) (λ m. refl) times scenario finer (same_takes scenario finer is.homes) 0 scenario.multicasts finer.multicasts is.messages)
 
 pub finer_are_few : LateRunsAreFew → ScenariosAreRoundable → WholeTicksAreEnough → LateFinerRunsAreFew
-finer_are_few few roundable enough times shares scenario finer upper runs well real is groups up are =
+finer_are_few few roundable enough times shares scenario finer upper runs well real is groups places up are =
     let none_above : IsUpper finer (times * upper) = enough times scenario finer upper (roundable scenario well) real is up in
-    rw (← same_sum times shares scenario finer is groups) (few shares finer (times * upper) runs none_above are)
+    rw (← same_sum times shares scenario finer is groups places) (few shares finer (times * upper) runs none_above are)

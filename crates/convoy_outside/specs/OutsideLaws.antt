@@ -59,6 +59,6 @@ LateRunsAreFew =
 abbrev pub LateFinerRunsAreFew : Type 0
 LateFinerRunsAreFew =
     (times : ℕ) (shares : List LinkShare) (scenario finer : Scenario) (upper : ℕ) (runs : List Schedule)
-    → IsScenario scenario → scenario.time ≡ Real → IsFiner times scenario finer → finer.groups ≡ scenario.groups
+    → IsScenario scenario → scenario.time ≡ Real → IsFiner times scenario finer → finer.groups ≡ scenario.groups → finer.places ≡ scenario.places
     → IsUpper scenario upper → AreRuns shares finer runs
     → IsShareOf (outside_of shares scenario) (λ run. nat_lt (times * upper) (latency_of finer run)) runs

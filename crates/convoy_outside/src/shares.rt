@@ -10,7 +10,7 @@ ghost use Rattle.convoy_outside.specs.Sums.{leads, name_home, name_way, outside_
 
 use convoy_packets::{Instance, Packet};
 use convoy_scenario::lookup::sender_of;
-use convoy_scenario::naming::group_name;
+use convoy_scenario::naming::{group_name, place_name};
 use convoy_scenario::{Name, Scenario, Sender};
 use convoy_toml::{LinkEnds, LinkShare, WHOLE_SHARE};
 
@@ -56,12 +56,13 @@ fn share_of(shares: &[LinkShare], scenario: &Scenario, packet: Packet) -> u64
     }
 }
 
-/// The name of a sender that is a group.
+/// The name of a sender that is a group, or of the place of a client, where that has a name.
 fn sender_name(scenario: &Scenario, sender: Sender) -> Option<&str>
     ensures { option_map (λ name. name.now) result ≡ sender_name scenario.now sender }
 {
     match sender {
-        Sender::Client => None,
+        Sender::Client(0) => None,
+        Sender::Client(place) => Some(place_name(scenario, place)),
         Sender::Group(group) => Some(group_name(scenario, group)),
     }
 }

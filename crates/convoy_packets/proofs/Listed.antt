@@ -117,7 +117,7 @@ module _ (plan : Scenario) (m : ℕ) (message : Message) where
       (λ k d l. All-map (λ p. message_of p ≡ m) (λ g. Propose m (get_or message.destinations k d) g)
       (filter (stamp_takes_time plan (get_or message.destinations k d)) message.destinations) (λ i e h. refl))))
 
-module _ (plan : Scenario) (m : ℕ) (message : Message) (groups : ℕ) (few : groups ≤ 8) (is : IsMulticast groups message) where
+module _ (plan : Scenario) (m : ℕ) (message : Message) (groups places : ℕ) (few : groups ≤ 8) (is : IsMulticast groups places message) where
   multicasts_within : m < 16 → HaveSlots (multicast_packets plan m message)
   multicasts_within low =
       All-map (λ p. is_within_limits p ≡ true) (λ g. Multicast m g) (filter (takes_time plan message.sender) message.destinations)
@@ -247,14 +247,14 @@ module _ (plan : Scenario) (is : IsScenario plan) where
       All-flat_map (λ p. is_within_limits p ≡ true) (λ p. message_packets plan p.0 p.1) (enumerate_from 0 plan.multicasts)
       (All-numbered (λ p. HaveSlots (message_packets plan p.0 p.1)) plan.multicasts
       (λ k d l. let low = is.multicasts_high in
-      message_within plan k (get_or plan.multicasts k d) (length plan.groups) is.groups_high (is.messages k d l) (omega arith)))
+      message_within plan k (get_or plan.multicasts k d) (length plan.groups) (length plan.places) is.groups_high (is.messages k d l) (omega arith)))
 
   pub length-packets_of-le : length (packets_of plan) ≤ 1168
   unfolding packets_of
   length-packets_of-le =
       let each = sum_by-le (λ p. length (message_packets plan p.0 p.1)) 73 (enumerate_from 0 plan.multicasts)
       (All-numbered (λ p. length (message_packets plan p.0 p.1) ≤ 73) plan.multicasts
-      (λ k d l. length-message plan k (get_or plan.multicasts k d) (length plan.groups) is.groups_high (is.messages k d l))) in
+      (λ k d l. length-message plan k (get_or plan.multicasts k d) (length plan.groups) (length plan.places) is.groups_high (is.messages k d l))) in
       let few = is.multicasts_high in
       let long = length-enumerate_from 0 plan.multicasts in
       rw length-flat_map (omega arith)
@@ -265,7 +265,7 @@ module _ (plan : Scenario) (is : IsScenario plan) where
   length-packets_of-unwaiting none own =
       let each = sum_by-le (λ p. length (message_packets plan p.0 p.1)) 64 (enumerate_from 0 plan.multicasts)
       (All-numbered (λ p. length (message_packets plan p.0 p.1) ≤ 64) plan.multicasts
-      (λ k d l. length-unwaiting plan k (get_or plan.multicasts k d) (length plan.groups) is.groups_high (is.messages k d l) own (none_at may_wait plan.multicasts k d none l))) in
+      (λ k d l. length-unwaiting plan k (get_or plan.multicasts k d) (length plan.groups) (length plan.places) is.groups_high (is.messages k d l) own (none_at may_wait plan.multicasts k d none l))) in
       let few = is.multicasts_high in
       let long = length-enumerate_from 0 plan.multicasts in
       rw length-flat_map (omega arith)
@@ -276,6 +276,6 @@ module _ (plan : Scenario) (is : IsScenario plan) where
       AllPairs-flat_map (λ p. p.0) message_of (λ p. message_packets plan p.0 p.1) (enumerate_from 0 plan.multicasts)
       (λ p. of_message plan p.0 p.1)
       (All-numbered (λ p. AllPairs (λ a b. a ≡ b → ⊥) (message_packets plan p.0 p.1)) plan.multicasts
-      (λ k d l. message_differs plan k (get_or plan.multicasts k d) (length plan.groups) is.groups_high (is.messages k d l)))
+      (λ k d l. message_differs plan k (get_or plan.multicasts k d) (length plan.groups) (length plan.places) is.groups_high (is.messages k d l)))
       (AllPairs-weaker (λ p q. p.0 < q.0) (λ p q. p.0 ≡ q.0 → ⊥) (enumerate_from 0 plan.multicasts) (λ p q l e. omega arith)
       (numbers_rise 0 plan.multicasts))

@@ -1,5 +1,5 @@
 -- Ranges, and the delays of schedules by packet.
-use Rattle.std.proofs.Common.{◌≡◌, ℕ, zero, suc, ◌<◌, ◌≤◌, ◌==◌, ◌&&◌, ◌||◌, Bool, true, false, cond, not, List, [], ◌∷◌, length, get_or, slice_set, IfSome, Option, Some, None, arith, refl, sym, ap, ◌∙◌, IsTrue}
+use Rattle.std.proofs.Common.{◌≡◌, ℕ, zero, suc, ◌<◌, ◌≤◌, ◌==◌, ◌&&◌, ◌||◌, Bool, true, false, cond, not, nat_lt, List, [], ◌∷◌, length, get_or, slice_set, IfSome, Option, Some, None, arith, refl, sym, ap, ◌∙◌, IsTrue}
 use Rattle.std.specs.List.{All, AllByRecursion, find, list_any, slice_get}
 use Rattle.std.specs.Option.{is_some, option_map_or}
 use Rattle.std.proofs.lemmas.Bool.{true≢false, not-true}
@@ -37,19 +37,19 @@ pub record IsWithinDelay (delay : ℕ) (range : ℕ × ℕ) : Type 0 where
 abbrev ends : Option Link → ℕ → ℕ × ℕ
 ends found delay = option_map_or (λ link. (link.least, link.most)) found (1, delay)
 
-found_within : (groups delay : ℕ) (p : Link → Bool) (links : List Link) → 1 ≤ delay → AllByRecursion (IsLink groups delay) links → IsWithinDelay delay (ends (find p links) delay)
-found_within groups delay p [] some all = record { low = omega arith; ordered = some; high = omega arith }
-found_within groups delay p (link ∷ links) some all =
+found_within : (groups places delay : ℕ) (p : Link → Bool) (links : List Link) → 1 ≤ delay → AllByRecursion (IsLink groups places delay) links → IsWithinDelay delay (ends (find p links) delay)
+found_within groups places delay p [] some all = record { low = omega arith; ordered = some; high = omega arith }
+found_within groups places delay p (link ∷ links) some all =
     elim (p link) as (λ b. IsWithinDelay delay (ends (cond b (Some link) (find p links)) delay)) [
       | true ↦ record { low = all.0.low; ordered = all.0.ordered; high = all.0.high }
-      | false ↦ found_within groups delay p links some all.1
+      | false ↦ found_within groups places delay p links some all.1
     ]
 
 -- what goes from one place to another takes a time within D
 between_within : (plan : Scenario) (sender : Sender) (to : ℕ) → IsScenario plan → IsWithinDelay plan.delay (range_between plan sender to)
 between_within plan sender to is =
-    found_within (length plan.groups) plan.delay (λ link. is_same_sender sender link.sender && (to == link.to)) plan.links is.delay_low
-    (recursion_from_All (IsLink (length plan.groups) plan.delay) plan.links is.links)
+    found_within (length plan.groups) (length plan.places) plan.delay (λ link. is_same_sender sender link.sender && (to == link.to)) plan.links is.delay_low
+    (recursion_from_All (IsLink (length plan.groups) (length plan.places) plan.delay) plan.links is.links)
 
 -- .. and within the limits
 pub between_lawful : (plan : Scenario) (sender : Sender) (to : ℕ) → IsScenario plan → IsRange (range_between plan sender to)
@@ -98,8 +98,9 @@ untimed plan e = by_time plan.time refl where
   by_time : (time : Time) → plan.time ≡ time → (plan.time ≡ Ticks) × (list_any may_wait plan.multicasts ≡ false) × (has_own_stamps plan ≡ false)
   by_time Real is = let f : is_timed plan ≡ true = rw is refl in absurd (true≢false (sym f ∙ e))
   by_time Ticks is =
-      let none : (list_any may_wait plan.multicasts || has_own_stamps plan) ≡ false = rw is at e in
-      let each = or_none (list_any may_wait plan.multicasts) (has_own_stamps plan) none in
+      let none : (list_any may_wait plan.multicasts || has_own_stamps plan || nat_lt 0 (length plan.places)) ≡ false = rw is at e in
+      let all = or_none (list_any may_wait plan.multicasts || has_own_stamps plan) (nat_lt 0 (length plan.places)) none in
+      let each = or_none (list_any may_wait plan.multicasts) (has_own_stamps plan) all.0 in
       (is, each.0, each.1)
 
 pub ranges_whole : (plan : Scenario) → IsScenario plan → is_timed plan ≡ false → AreWholeDelays (ranges_of plan)

@@ -42,15 +42,20 @@ load_text scenario (Wait m) = codes "wait of " ++ message_name_at scenario m
 load_text scenario (Multicast m g) = message_name_at scenario m
 load_text scenario (Proposal m h g) = codes "proposal of " ++ message_name_at scenario m
 
+-- what a packet brings, and from where to where
+unfoldable pub way_text : Scenario → Flight → List ℕ
+way_text scenario flight =
+    load_text scenario flight.packet
+    ++ (codes " from " ++ (sender_text scenario flight.from
+    ++ (codes " to " ++ group_name_at scenario (receiver_of flight.packet))))
+
 -- a packet on its way: its number, what it brings, from where to where, and when
 unfoldable pub flight_text : Scenario → Flight → List ℕ
 flight_text scenario flight =
     codes "packet " ++ (decimal flight.number
-    ++ (codes ": " ++ (load_text scenario flight.packet
-    ++ (codes " from " ++ (sender_text scenario flight.from
-    ++ (codes " to " ++ (group_name_at scenario (receiver_of flight.packet)
+    ++ (codes ": " ++ (way_text scenario flight
     ++ (codes ", sent at tick " ++ (decimal flight.sent
-    ++ (codes ", there at tick " ++ decimal flight.arrival))))))))))
+    ++ (codes ", there at tick " ++ decimal flight.arrival))))))
 
 -- what becomes of a message
 abbrev pub doing_text : EntryKind → List ℕ

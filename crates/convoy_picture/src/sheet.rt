@@ -267,10 +267,10 @@ fn missing(rows: &[Option<usize>]) -> usize {
     count
 }
 
-/// The lane of a place: that of the clients comes first, and then the groups by number.
+/// The lane of a place: that of the clients comes first, wherever they are, and then the groups by number.
 pub fn lane_of(place: Sender) -> usize {
     match place {
-        Sender::Client => 0,
+        Sender::Client(_) => 0,
         Sender::Group(group) => group.saturating_add(1),
     }
 }

@@ -1,5 +1,5 @@
 ghost use Rattle.std.specs.Prelude.{◌≡◌, IfOk, string_bytes};
-ghost use Rattle.convoy_picture.specs.Words.{answer_text, doing_text, entry_text, flight_text, load_text, outcome_text, reason_text};
+ghost use Rattle.convoy_picture.specs.Words.{answer_text, doing_text, entry_text, flight_text, load_text, outcome_text, reason_text, way_text};
 ghost use Rattle.convoy_packets.specs.Assignment.{receiver_of};
 
 use super::flight::Flight;
@@ -7,7 +7,7 @@ use convoy_packets::Packet;
 use convoy_scenario::lookup::sender_of;
 use convoy_scenario::naming::{group_name, message_name};
 use convoy_scenario::{AllocResult, Scenario};
-use convoy_timeline::{Entry, EntryKind, Explanation, sender_name, stamp_text, ticks_text};
+use convoy_timeline::{Entry, EntryKind, Explanation, sender_text, stamp_text, ticks_text};
 use convoy_times::Measure;
 use std::alloc::Global;
 
@@ -35,7 +35,7 @@ pub fn reason_words(alloc: Global, scenario: &Scenario, why: &Explanation) -> Al
     ensures { IfOk result (λ words. string_bytes words ≡ reason_text scenario.now why.now) }
 {
     let target = scenario.target_message();
-    let sender = sender_name(scenario, sender_of(scenario, target));
+    let sender = sender_text(alloc, scenario, sender_of(scenario, target))?;
     let name = message_name(scenario, target);
     let at = why.delivered.saturating_sub(why.latency);
     let outcome = outcome_words(alloc, scenario, why)?;
@@ -71,13 +71,22 @@ fn outcome_words(alloc: Global, scenario: &Scenario, why: &Explanation) -> Alloc
 pub fn flight_words(alloc: Global, scenario: &Scenario, flight: &Flight) -> AllocResult<String>
     ensures { IfOk result (λ words. string_bytes words ≡ flight_text scenario.now flight.now) }
 {
-    let load = load_words(alloc, scenario, flight.packet)?;
-    let from = sender_name(scenario, flight.from);
-    let to = group_name(scenario, receiver_of(flight.packet));
+    let way = way_words(alloc, scenario, flight)?;
     format!(in alloc;
-        "packet {}: {load} from {from} to {to}, sent at tick {}, there at tick {}",
+        "packet {}: {way}, sent at tick {}, there at tick {}",
         flight.number, flight.sent, flight.arrival,
     )
+}
+
+/// What a packet brings, and from where to where.
+#[tactic(auto, unfolding(crate::specs::Words::way_text))]
+fn way_words(alloc: Global, scenario: &Scenario, flight: &Flight) -> AllocResult<String>
+    ensures { IfOk result (λ words. string_bytes words ≡ way_text scenario.now flight.now) }
+{
+    let load = load_words(alloc, scenario, flight.packet)?;
+    let from = sender_text(alloc, scenario, flight.from)?;
+    let to = group_name(scenario, receiver_of(flight.packet));
+    format!(in alloc; "{load} from {from} to {to}")
 }
 
 /// What a packet brings.

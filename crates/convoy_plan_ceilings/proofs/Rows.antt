@@ -32,6 +32,7 @@ written = record {
     delay = Some (Count (pos 10));
     least = None;
     groups = codes "a" ∷ codes "b" ∷ [];
+    places = [];
     agreements = [];
     links = between (codes "x") (codes "x") false 1 2 ∷ between (codes "x") (codes "y") true 5 9 ∷ [];
     messages = record {
@@ -66,8 +67,9 @@ scenario made = record {
   tick = None;
   delay = 10;
   groups = codes "a" ∷ codes "b" ∷ [];
+  places = [];
   links = made;
-  multicasts = record { name = codes "m"; sender = sender.Client; destinations = 0 ∷ 1 ∷ []; at = 0; longest_wait = 0 } ∷ [];
+  multicasts = record { name = codes "m"; sender = sender.Client 0; destinations = 0 ∷ 1 ∷ []; at = 0; longest_wait = 0 } ∷ [];
   target_message = 0;
   target_group = 0;
 }
@@ -77,10 +79,10 @@ link from to least most = record { sender = from; to = to; least = least; most =
 
 -- both groups at x, and b at y
 abbrev near : Scenario
-near = scenario (link sender.Client 0 1 2 ∷ link sender.Client 1 1 2 ∷ link (sender.Group 0) 1 1 2 ∷ link (sender.Group 1) 0 1 2 ∷ [])
+near = scenario (link (sender.Client 0) 0 1 2 ∷ link (sender.Client 0) 1 1 2 ∷ link (sender.Group 0) 1 1 2 ∷ link (sender.Group 1) 0 1 2 ∷ [])
 
 abbrev far : Scenario
-far = scenario (link sender.Client 0 1 2 ∷ link sender.Client 1 5 9 ∷ link (sender.Group 0) 1 5 9 ∷ link (sender.Group 1) 0 5 9 ∷ [])
+far = scenario (link (sender.Client 0) 0 1 2 ∷ link (sender.Client 0) 1 5 9 ∷ link (sender.Group 0) 1 5 9 ∷ link (sender.Group 1) 0 5 9 ∷ [])
 
 near_is : scenario_at plan (0 ∷ 0 ∷ []) ≡ Ok near
 near_is = refl

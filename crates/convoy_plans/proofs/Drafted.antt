@@ -55,6 +55,11 @@ kept_groups None draft = refl
 kept_groups (Some least) draft =
     same_field (int_le least (pos 1)) (λ d. d.groups) draft (record draft { links = draft.links ++ map (link_along least draft.delay) (ways_without_link draft) }) refl
 
+kept_places : (least : Option ℤ) (draft : Draft) → (with_least least draft).places ≡ draft.places
+kept_places None draft = refl
+kept_places (Some least) draft =
+    same_field (int_le least (pos 1)) (λ d. d.places) draft (record draft { links = draft.links ++ map (link_along least draft.delay) (ways_without_link draft) }) refl
+
 kept_messages : (least : Option ℤ) (draft : Draft) → (with_least least draft).messages ≡ draft.messages
 kept_messages None draft = refl
 kept_messages (Some least) draft =
@@ -99,6 +104,7 @@ pub record Drafted (written : WrittenScenario) (draft : Draft) : Type 0 where
   pub tick_is : tick_of written ≡ Ok tick
   pub messages_are : draft_messages_of tick written.messages ≡ Ok draft.messages
   pub groups_are : draft.groups ≡ written.groups
+  pub places_are : draft.places ≡ written.places
   pub bundles : List Bundle
   pub bundles_are : bundles_of tick written.links ≡ Ok bundles
   pub links_have : (link : DraftLink) → In link (flat_map links_of_bundle bundles) → In link draft.links
@@ -116,6 +122,7 @@ timed written tick delay messages bundles links = record {
   tick = tick;
   delay = delay_or_greatest delay bundles;
   groups = written.groups;
+  places = written.places;
   links = links;
   messages = messages;
   target_message = written.target_message;
@@ -141,6 +148,7 @@ drafted_of written draft none e =
       tick_is = t.1;
       messages_are = m.1 ∙ ap (λ ms. Ok ms) (sym (kept_messages l.0 base) ∙ ap (λ (x : Draft). x.messages) same);
       groups_are = ap (λ (x : Draft). x.groups) (sym same) ∙ kept_groups l.0 base;
+      places_are = ap (λ (x : Draft). x.places) (sym same) ∙ kept_places l.0 base;
       bundles = b.0;
       bundles_are = b.1;
       links_have = λ link h.

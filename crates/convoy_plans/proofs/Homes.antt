@@ -1,13 +1,13 @@
 -- In the scenario of a placement no group has a link to itself: each link leads from a place to another one.
-use Rattle.std.proofs.Common.{◌≡◌, ◌⊎◌, ℕ, ℤ, ◌==◌, ◌&&◌, ◌||◌, not, Bool, true, false, List, [], ◌∷◌, map, flat_map, find, Option, Some, None, is_some, refl, sym, ap, subst, ◌∙◌, inl, inr}
+use Rattle.std.proofs.Common.{◌≡◌, ◌⊎◌, ℕ, ℤ, ◌+◌, ◌==◌, ◌&&◌, ◌||◌, not, Bool, true, false, cond, List, [], ◌∷◌, map, flat_map, find, Option, Some, None, is_some, refl, sym, ap, subst, ◌∙◌, inl, inr}
 use Rattle.std.specs.List.{list_all}
 use Rattle.std.specs.Option.{option_map_or}
 use Rattle.std.proofs.lemmas.Bool.{and_parts, cases_Bool, eq-eqb, eqb-true, false_from_ne_true, true≢false}
 use Rattle.convoy_draft.specs.Checks.{checks, is_among, is_known_sender, is_named_alike, judge, knows_link, leads_elsewhere}
 use Rattle.convoy_draft.specs.Draft.{Draft, DraftLink}
-use Rattle.convoy_scenario.specs.declared.sender.Sender.TheVariants.{Group}
+use Rattle.convoy_scenario.specs.declared.sender.Sender.TheVariants.{Client, Group}
 use Rattle.convoy_scenario.specs.Numbering.{link_of, place, scenario_of}
-use Rattle.convoy_scenario.specs.Scenario.{Link}
+use Rattle.convoy_scenario.specs.Scenario.{Link, is_same_sender}
 use Rattle.convoy_scenario.proofs.GivenScenarios.{passed}
 use Rattle.convoy_scenario.proofs.KeptRanges.{leads}
 use Rattle.convoy_scenario.proofs.NumberedLemmas.{passes}
@@ -61,27 +61,31 @@ bundle_elsewhere bundle ends stamps name to link apart lone is h =
     lone_elsewhere name to bundle.least bundle.most stamps link apart (subst (λ (b : Bundle). In link (links_of_bundle b)) same h)
 
 -- ---- where each link leads elsewhere none leads from a group to itself
-not_home : (groups : List (List ℕ)) (g : ℕ) (link : DraftLink) → knows_link groups link ≡ true → leads_elsewhere link ≡ true → leads (Group g) g (link_of groups link) ≡ false
-not_home groups g link known away = false_from_ne_true _ (λ home. by_sender link.sender refl home) where
-  k : (is_known_sender groups link.sender ≡ true) × (is_among link.to groups ≡ true)
-  k = and_parts (is_known_sender groups link.sender) (is_among link.to groups) known
+not_home : (groups places : List (List ℕ)) (g : ℕ) (link : DraftLink) → knows_link groups places link ≡ true → leads_elsewhere link ≡ true → leads (Group g) g (link_of groups places link) ≡ false
+not_home groups places g link known away = false_from_ne_true _ (λ home. by_sender link.sender refl home) where
+  receiver_known : is_among link.to groups ≡ true
+  receiver_known = (and_parts (is_known_sender groups places link.sender) (is_among link.to groups) known).1
 
-  by_sender : (sender : Option (List ℕ)) → link.sender ≡ sender → leads (Group g) g (link_of groups link) ≡ true → ⊥
-  by_sender None is home = let no : false ≡ true = rw is at home in absurd cc
-  by_sender (Some name) is home =
-      let ends : ((g == place name groups) && (g == place link.to groups)) ≡ true = rw is at home in
+  -- the sender is the group g, where it has a name that is among the groups or not
+  by_test : (name : List ℕ) (among : Bool) → link.sender ≡ Some name → is_among name groups ≡ among
+      → (is_same_sender (Group g) (cond among (Group (place name groups)) (Client (place name places + 1))) && (g == place link.to groups)) ≡ true → ⊥
+  by_test name true is among ends =
       let e = and_parts (g == place name groups) (g == place link.to groups) ends in
       let one : place name groups ≡ place link.to groups = sym (eqb-true _ _ e.0) ∙ eqb-true _ _ e.1 in
-      let sender_known : is_among name groups ≡ true = rw is at k.0 in
       let elsewhere : leads_elsewhere (record link { sender = Some name }) ≡ true = rw is at away in
-      true≢false (sym elsewhere ∙ ap not (one_name groups name link.to sender_known k.1 one))
+      true≢false (sym elsewhere ∙ ap not (one_name groups name link.to among receiver_known one))
+  by_test name false is among ends = true≢false (sym ends)
 
-none_home : (groups : List (List ℕ)) (g : ℕ) (links : List DraftLink) → list_all (knows_link groups) links ≡ true → ((link : DraftLink) → In link links → leads_elsewhere link ≡ true)
-    → find (leads (Group g) g) (map (link_of groups) links) ≡ None
-none_home groups g [] known away = refl
-none_home groups g (link ∷ links) known away =
-    let k = and_parts (knows_link groups link) (list_all (knows_link groups) links) known in
-    rw (not_home groups g link k.0 (away link (inl refl))) (none_home groups g links k.1 (λ other h. away other (inr h)))
+  by_sender : (sender : Option (List ℕ)) → link.sender ≡ sender → leads (Group g) g (link_of groups places link) ≡ true → ⊥
+  by_sender None is home = let no : false ≡ true = rw is at home in absurd cc
+  by_sender (Some name) is home = by_test name (is_among name groups) is refl (rw is at home)
+
+none_home : (groups places : List (List ℕ)) (g : ℕ) (links : List DraftLink) → list_all (knows_link groups places) links ≡ true → ((link : DraftLink) → In link links → leads_elsewhere link ≡ true)
+    → find (leads (Group g) g) (map (link_of groups places) links) ≡ None
+none_home groups places g [] known away = refl
+none_home groups places g (link ∷ links) known away =
+    let k = and_parts (knows_link groups places link) (list_all (knows_link groups places) links) known in
+    rw (not_home groups places g link k.0 (away link (inl refl))) (none_home groups places g links k.1 (λ other h. away other (inr h)))
 
 -- each link of the draft of a placement leads elsewhere
 drafted_elsewhere : (plan : Plan) (placement : List ℕ) (draft : Draft) → Drafted (written_at plan placement) draft → (link : DraftLink) → In link draft.links → leads_elsewhere link ≡ true
@@ -99,7 +103,7 @@ no_links_to_themselves plan placement scenario g e =
     let m = made_of (written_at plan placement) scenario e in
     let d = drafted_of (written_at plan placement) m.draft refl m.drafted in
     let p = passes m.draft (passed (judge (checks m.draft)) (scenario_of m.draft) scenario m.given).0 in
-    let none = none_home m.draft.groups g m.draft.links p.ends (drafted_elsewhere plan placement m.draft d) in
+    let none = none_home m.draft.groups m.draft.places g m.draft.links p.ends (drafted_elsewhere plan placement m.draft d) in
     let kept = taking_kept m.draft scenario m.given in
     let home : (not (g == g) || false) ≡ false = ap (λ (same : Bool). not same || false) (eq-eqb g g refl) in
     record {

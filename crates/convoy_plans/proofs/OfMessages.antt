@@ -9,7 +9,6 @@ use Rattle.convoy_draft.specs.declared.fault.Key.TheVariants.{At}
 use Rattle.convoy_draft.specs.Checks.{all_differ, checks, is_among, judge}
 use Rattle.convoy_draft.specs.Draft.{DraftMessage}
 use Rattle.convoy_lines.specs.Results.{◌>>=◌}
-use Rattle.convoy_scenario.specs.declared.sender.Sender.TheVariants as senders
 use Rattle.convoy_scenario.specs.Numbering.{message_of, numbers_of, scenario_of, sender_of}
 use Rattle.convoy_scenario.specs.Scenario.{Message, Scenario, message_at, no_message}
 use Rattle.convoy_scenario.proofs.GivenScenarios.{passed}
@@ -25,7 +24,7 @@ use Rattle.convoy_plans.specs.Placements.{further_clients, groups_in, is_first, 
 use Rattle.convoy_plans.specs.Plans.{IsOrigin, IsPlan, Plan, client_sites, group_name, is_site, name_of, origin_of, site_name}
 use Rattle.convoy_plans.proofs.Drafted.{after_ok, drafted_of, made_of, one_ok}
 use Rattle.convoy_plans.proofs.Members.{In, all_in, in_at}
-use Rattle.convoy_plans.proofs.OfSites.{get_or-first, group_place, in_group, names_differ, none_alike}
+use Rattle.convoy_plans.proofs.OfSites.{get_or-first, group_sender, in_group, names_differ, none_alike}
 
 -- ---- messages in ticks
 
@@ -159,11 +158,11 @@ not_first plan is k within = by_clients plan.clients refl where
       let apart : bytes_eq (site_name plan c) (group_name plan k) ≡ false = none_alike (group_name plan k) (site_name plan c) plan.written.groups plan.sites is.differ (in_group plan k within) here in
       rw are (false_from_ne_true _ (λ same. both_ways _ apart (rw (same_bytes (group_name plan k) (site_name plan c) same) (itself (site_name plan c)))))
 
-sender_is : (plan : Plan) → IsPlan plan → all_differ (groups_in plan) ≡ true → (origin : Origin) → IsOrigin plan origin → sender_of (groups_in plan) (sender_in plan (Some (name_of plan origin))) ≡ sender_for plan origin
+sender_is : (plan : Plan) → IsPlan plan → all_differ (groups_in plan) ≡ true → (origin : Origin) → IsOrigin plan origin → sender_of (groups_in plan) [] (sender_in plan (Some (name_of plan origin))) ≡ sender_for plan origin
 sender_is plan is differ (Site s) here = refl
 sender_is plan is differ (Group k) within =
-    ap (λ (b : Bool). sender_of (groups_in plan) (cond b None (Some (group_name plan k)))) (not_first plan is k within)
-    ∙ ap (λ n. senders.Group n) (group_place plan k differ within)
+    ap (λ (b : Bool). sender_of (groups_in plan) [] (cond b None (Some (group_name plan k)))) (not_first plan is k within)
+    ∙ group_sender plan k differ within
 
 -- ---- the messages
 
@@ -191,7 +190,7 @@ messages_of_plans plan placement scenario i is e within =
     let message = get_or plan.written.messages i nothing_written in
     let there : get_or (map (message_in plan) plan.written.messages) i nothing_written ≡ message_in plan message = get_or-map (message_in plan) plan.written.messages i nothing_written nothing_written within in
     let one : IsInTicks (message_in plan message) (get_or m.draft.messages i nothing) = subst (λ w. IsInTicks w (get_or m.draft.messages i nothing)) there (t.each i nothing_written (omega arith)) in
-    let numbered : message_at (scenario_of m.draft) i ≡ message_of m.draft.groups (get_or m.draft.messages i nothing) = get_or-map (message_of m.draft.groups) m.draft.messages i nothing no_message (omega arith) in
+    let numbered : message_at (scenario_of m.draft) i ≡ message_of m.draft.groups m.draft.places (get_or m.draft.messages i nothing) = get_or-map (message_of m.draft.groups m.draft.places) m.draft.messages i nothing no_message (omega arith) in
     let here : IsOrigin plan (origin_of plan i) = is_origin plan is i within in
     let goes : get_or plan.goes i [] ≡ numbers_of plan.written.groups message.to =
     ap (λ (gs : List (List ℕ)). get_or gs i []) is.goes ∙ get_or-map (λ (w : WrittenMessage). numbers_of plan.written.groups w.to) plan.written.messages i nothing_written [] within in
@@ -199,8 +198,9 @@ messages_of_plans plan placement scenario i is e within =
     all_in (λ (w : WrittenMessage). list_all (λ name. is_among name plan.written.groups) w.to) message plan.written.messages (in_at plan.written.messages i nothing_written within) is.addressed in
     subst (λ (s : Scenario). IsOfPlan plan s i) made (record {
       sender = ap (λ (x : Message). x.sender) numbered
-          ∙ ap (λ (gs : List (List ℕ)). sender_of gs (get_or m.draft.messages i nothing).sender) d.groups_are
-          ∙ ap (λ (s : Option (List ℕ)). sender_of (groups_in plan) s) (one.sender ∙ ap (sender_in plan) (sent_from plan is i within)) ∙ sender_is plan is differ (origin_of plan i) here;
+          ∙ ap (λ (gs : List (List ℕ)). sender_of gs m.draft.places (get_or m.draft.messages i nothing).sender) d.groups_are
+          ∙ ap (λ (ps : List (List ℕ)). sender_of (groups_in plan) ps (get_or m.draft.messages i nothing).sender) d.places_are
+          ∙ ap (λ (s : Option (List ℕ)). sender_of (groups_in plan) [] s) (one.sender ∙ ap (sender_in plan) (sent_from plan is i within)) ∙ sender_is plan is differ (origin_of plan i) here;
       origin = here;
       destinations = ap (λ (x : Message). x.destinations) numbered
           ∙ ap (λ (gs : List (List ℕ)). numbers_of gs (get_or m.draft.messages i nothing).to) d.groups_are

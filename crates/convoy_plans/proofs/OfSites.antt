@@ -18,7 +18,7 @@ use Rattle.convoy_scenario.specs.Numbering.{link_of, links_of_draft, place, scen
 use Rattle.convoy_scenario.specs.Scenario.{Link, Scenario, is_same_sender, range_between}
 use Rattle.convoy_scenario.proofs.GivenScenarios.{passed}
 use Rattle.convoy_scenario.proofs.KeptRanges.{leads as leads_link, ranges_kept}
-use Rattle.convoy_scenario.proofs.NumberedAgain.{itself, one_place, place_again, same_bytes}
+use Rattle.convoy_scenario.proofs.NumberedAgain.{among_at, itself, one_place, place_again, same_bytes}
 use Rattle.convoy_scenario.proofs.NumberedLemmas.{Passes, groups_distinct, passes}
 use Rattle.convoy_toml.specs.declared.written.WrittenTime.{WrittenTime}
 use Rattle.convoy_toml.specs.declared.written.WrittenTime.TheVariants.{Count, Lasting}
@@ -93,7 +93,7 @@ lone_link (Some name) to least most apart = rw apart (inl refl)
 -- ---- places in the scenario
 
 self_sender : (s : Sender) → is_same_sender s s ≡ true
-self_sender senders.Client = refl
+self_sender (senders.Client p) = grind (arith, nat_tests)
 self_sender (senders.Group g) = grind (arith, nat_tests)
 
 self_number : (n : ℕ) → (n == n) ≡ true
@@ -114,6 +114,13 @@ pub group_place : (plan : Plan) (g : ℕ) → all_differ (groups_in plan) ≡ tr
 group_place plan g differ within =
     let at : get_or (groups_in plan) g [] ≡ group_name plan g = get_or-first plan.written.groups _ g within in
     rw (← at) (place_again (groups_in plan) g (groups_distinct (groups_in plan) differ) (longer plan.written.groups _ g within))
+
+-- who has its name
+pub group_sender : (plan : Plan) (g : ℕ) → all_differ (groups_in plan) ≡ true → g < length plan.written.groups → sender_of (groups_in plan) [] (Some (group_name plan g)) ≡ senders.Group g
+group_sender plan g differ within =
+    let at : get_or (groups_in plan) g [] ≡ group_name plan g = get_or-first plan.written.groups _ g within in
+    let among : is_among (group_name plan g) (groups_in plan) ≡ true = rw (← at) (among_at (groups_in plan) g (longer plan.written.groups _ g within)) in
+    rw among (ap (λ n. senders.Group n) (group_place plan g differ within))
 
 -- ---- from a place to a group
 
@@ -138,11 +145,11 @@ module _ (plan : Plan) (placement : List ℕ) (scenario : Scenario) (is : IsPlan
       rw (← d.groups_are) p.groups_differ
 
   from_spot : (spot : Spot) (g : ℕ) → In spot (spots plan placement) → g < length plan.written.groups → is_named_alike spot.name (Some (group_name plan g)) ≡ false
-      → most_in is.bundles (site_name plan spot.site) (site_name plan (site_at placement g)) ≤ (range_between scenario (sender_of (groups_in plan) spot.name) g).1
+      → most_in is.bundles (site_name plan spot.site) (site_name plan (site_at placement g)) ≤ (range_between scenario (sender_of (groups_in plan) [] spot.name) g).1
   from_spot spot g stands within apart =
       by_first (first_is plan.tick plan.written.links is.bundles (λ ends. leads ends (site_name plan spot.site) (site_name plan (site_at placement g))) is.ticks) where
         by_first : FirstIs plan.tick plan.written.links is.bundles (λ ends. leads ends (site_name plan spot.site) (site_name plan (site_at placement g)))
-            → most_in is.bundles (site_name plan spot.site) (site_name plan (site_at placement g)) ≤ (range_between scenario (sender_of (groups_in plan) spot.name) g).1
+            → most_in is.bundles (site_name plan spot.site) (site_name plan (site_at placement g)) ≤ (range_between scenario (sender_of (groups_in plan) [] spot.name) g).1
         by_first (none_is none) = rw none (omega arith)
         by_first (some_is link bundle at too ticks_are) =
             let m = made in
@@ -162,10 +169,10 @@ module _ (plan : Plan) (placement : List ℕ) (scenario : Scenario) (is : IsPlan
             let drawn : DraftLink = record { sender = spot.name; to = name; least = b.0.least; most = b.0.most; stamps = false } in
             let lone : In drawn (links_of_bundle b.0) = subst (λ (x : Bundle). In drawn (links_of_bundle x)) (sym t.is) (lone_link spot.name name b.0.least b.0.most apart) in
             let linked : In drawn m.draft.links = d.links_have drawn (in_flat_map links_of_bundle b.0 drawn d.bundles b.1 lone) in
-            let sender = sender_of (groups_in plan) spot.name in
-            let leads_there : leads_link sender g (link_of (groups_in plan) drawn) ≡ true = rw (self_sender sender, group_place plan g names_differ within) (self_number g) in
-            let leads_here : leads_link sender g (link_of m.draft.groups drawn) ≡ true = rw d.groups_are leads_there in
-            let found : find (leads_link sender g) (links_of_draft m.draft) ≡ Some (link_of m.draft.groups drawn) = link_found m.draft.groups sender g m.draft.links drawn p.links_differ p.ends linked leads_here in
+            let sender = sender_of (groups_in plan) [] spot.name in
+            let leads_there : leads_link sender g (link_of (groups_in plan) [] drawn) ≡ true = rw (self_sender sender, group_place plan g names_differ within) (self_number g) in
+            let leads_here : leads_link sender g (link_of m.draft.groups m.draft.places drawn) ≡ true = rw (d.groups_are, d.places_are) leads_there in
+            let found : find (leads_link sender g) (links_of_draft m.draft) ≡ Some (link_of m.draft.groups m.draft.places drawn) = link_found m.draft.groups m.draft.places sender g m.draft.links drawn p.links_differ p.ends linked leads_here in
             let range : (range_between scenario sender g).1 ≡ ticks GREATEST_DELAY b.0.most =
             ap (λ (r : ℕ × ℕ). r.1) (ranges_kept m.draft scenario sender g m.given ∙ ap (λ l. option_map_or (λ (k : Link). (k.least, k.most)) l (1, scenario.delay)) found) in
             let less : ticks GREATEST_DELAY bundle.most ≤ (range_between scenario sender g).1 = rw (range, most) (omega arith) in
@@ -228,7 +235,7 @@ none_alike x y (z ∷ xs) ys differ (inr h) k =
 record Spotted (plan : Plan) (placement : List ℕ) (from : Origin) (g : ℕ) : Type 0 where
   spot : Spot
   stands : In spot (spots plan placement)
-  sender : sender_of (groups_in plan) spot.name ≡ sender_for plan from
+  sender : sender_of (groups_in plan) [] spot.name ≡ sender_for plan from
   site : site_name plan spot.site ≡ site_name plan (site_of placement from)
   apart : is_named_alike spot.name (Some (group_name plan g)) ≡ false
 
@@ -240,7 +247,7 @@ group_spotted plan placement k g differ within other apart =
       stands = in_first spot (client_spots (first_client plan) ++ map (group_spot plan placement) (group_numbers plan)) (map (further_spot plan) (further_clients plan))
           (in_then spot (client_spots (first_client plan)) (map (group_spot plan placement) (group_numbers plan))
           (in_map (group_spot plan placement) k (group_numbers plan) (in_range (length plan.written.groups) k within)));
-      sender = ap (λ n. senders.Group n) (group_place plan k differ within);
+      sender = group_sender plan k differ within;
       site = refl;
       apart = false_from_ne_true _ (λ same.
           let mine : get_or (groups_in plan) k [] ≡ group_name plan k = get_or-first plan.written.groups _ k within in
@@ -266,7 +273,7 @@ site_spotted plan placement s g differ among within = by_clients plan.clients re
         spot = spot;
         stands = in_first spot (client_spots (first_client plan) ++ map (group_spot plan placement) (group_numbers plan)) (map (further_spot plan) (further_clients plan))
             (in_first spot (client_spots (first_client plan)) (map (group_spot plan placement) (group_numbers plan)) here);
-        sender = ap (λ (b : Bool). sender_of (groups_in plan) (cond b None (Some (site_name plan s)))) (sym is);
+        sender = ap (λ (b : Bool). sender_of (groups_in plan) [] (cond b None (Some (site_name plan s)))) (sym is);
         site = sym (same_bytes (site_name plan s) (site_name plan c) same);
         apart = refl;
       }
@@ -281,7 +288,7 @@ site_spotted plan placement s g differ among within = by_clients plan.clients re
         spot = spot;
         stands = in_then spot (client_spots (first_client plan) ++ map (group_spot plan placement) (group_numbers plan)) (map (further_spot plan) (further_clients plan))
             (in_map (further_spot plan) s (further_clients plan) there);
-        sender = ap (λ (b : Bool). sender_of (groups_in plan) (cond b None (Some (site_name plan s)))) (sym is);
+        sender = ap (λ (b : Bool). sender_of (groups_in plan) [] (cond b None (Some (site_name plan s)))) (sym is);
         site = refl;
         apart = none_alike (group_name plan g) (site_name plan s) plan.written.groups (map (site_name plan) (further_clients plan)) differ (in_group plan g within)
             (in_map (site_name plan) s (further_clients plan) there);

@@ -1,6 +1,7 @@
 -- Worked rows: a plan of two sites, and its scenarios.
 use Rattle.std.proofs.Common.{◌≡◌, refl, true, false, pos, [], ◌∷◌, Bool, Option, Some, None, ℕ, List, Ok, Err, codes}
-use Rattle.convoy_draft.specs.declared.fault.Key.TheVariants.{Stamps}
+use Rattle.toml.specs.Data.{Members, no_items, no_members, member, array, integer, string, table}
+use Rattle.convoy_draft.specs.declared.fault.Key.TheVariants.{Stamps, Unknown}
 use Rattle.convoy_draft.specs.declared.fault.ScenarioFault.TheVariants.{Shape}
 use Rattle.convoy_draft.specs.declared.time.Time.TheVariants.{Real}
 use Rattle.convoy_scenario.specs.declared.sender.Sender.{Sender}
@@ -9,12 +10,14 @@ use Rattle.convoy_scenario.specs.Scenario.{Link, Scenario}
 use Rattle.convoy_toml.specs.Links.{Bundle}
 use Rattle.convoy_toml.specs.Reading.{as_written}
 use Rattle.convoy_toml.specs.Shape.{LinkEnds, WrittenLink, WrittenMessage}
+use Rattle.convoy_toml.specs.declared.target.TargetKey.TheVariants.{Required}
 use Rattle.convoy_toml.specs.declared.written.WrittenTime.TheVariants.{Count}
 use Rattle.convoy_plans.specs.declared.fault.PlanFault.TheVariants.{NoPlace, NoRange, NoSites, Scenario as InScenario, UnknownSite}
 use Rattle.convoy_plans.specs.Numbering.{plan_in}
 use Rattle.convoy_plans.specs.Placements.{scenario_at}
 use Rattle.convoy_plans.specs.Plans.{Home, Plan, WrittenPlan, most_between}
 use Rattle.convoy_plans.specs.Reading.{plan_of_written}
+use Rattle.convoy_plans.specs.Shape.{plan_of_table}
 
 -- links from the one site to the other, and perhaps back, that take so long
 abbrev ends : List ℕ → List ℕ → Bool → LinkEnds
@@ -46,6 +49,7 @@ written from tables homes = record {
     delay = Some (Count (pos 10));
     least = None;
     groups = codes "a" ∷ codes "b" ∷ [];
+    places = [];
     agreements = [];
     links = tables;
     messages = message from ∷ [];
@@ -108,8 +112,9 @@ scenario made = record {
   tick = None;
   delay = 10;
   groups = codes "a" ∷ codes "b" ∷ [];
+  places = [];
   links = made;
-  multicasts = record { name = codes "m"; sender = sender.Client; destinations = 0 ∷ 1 ∷ []; at = 0; longest_wait = 0 } ∷ [];
+  multicasts = record { name = codes "m"; sender = sender.Client 0; destinations = 0 ∷ 1 ∷ []; at = 0; longest_wait = 0 } ∷ [];
   target_message = 0;
   target_group = 0;
 }
@@ -117,8 +122,20 @@ scenario made = record {
 abbrev link : Sender → ℕ → ℕ → ℕ → Link
 link from to least most = record { sender = from; to = to; least = least; most = most; stamps = false }
 
-together : scenario_at plan (0 ∷ 0 ∷ []) ≡ Ok (scenario (link sender.Client 0 1 2 ∷ link sender.Client 1 1 2 ∷ link (sender.Group 0) 1 1 2 ∷ link (sender.Group 1) 0 1 2 ∷ []))
+together : scenario_at plan (0 ∷ 0 ∷ []) ≡ Ok (scenario (link (sender.Client 0) 0 1 2 ∷ link (sender.Client 0) 1 1 2 ∷ link (sender.Group 0) 1 1 2 ∷ link (sender.Group 1) 0 1 2 ∷ []))
 together = refl
 
-apart : scenario_at plan (0 ∷ 1 ∷ []) ≡ Ok (scenario (link sender.Client 0 1 2 ∷ link sender.Client 1 5 9 ∷ link (sender.Group 0) 1 5 9 ∷ link (sender.Group 1) 0 5 9 ∷ []))
+apart : scenario_at plan (0 ∷ 1 ∷ []) ≡ Ok (scenario (link (sender.Client 0) 0 1 2 ∷ link (sender.Client 0) 1 5 9 ∷ link (sender.Group 0) 1 5 9 ∷ link (sender.Group 1) 0 5 9 ∷ []))
 apart = refl
+
+-- ---- no places
+
+-- a plan's sites are where its clients are: the key of a scenario's places is unknown there
+abbrev placed : Members
+placed =
+    member (codes "delay") (integer (pos 3)) (member (codes "group") (array no_items) (member (codes "groups") (array no_items) (member (codes "multicast") (array no_items)
+    (member (codes "places") (array no_items) (member (codes "sites") (array no_items)
+    (member (codes "target") (table (member (codes "group") (string (codes "a")) (member (codes "message") (string (codes "m")) no_members))) no_members))))))
+
+with_places : plan_of_table Required placed ≡ Err (InScenario (Shape Unknown))
+with_places = refl

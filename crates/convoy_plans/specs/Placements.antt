@@ -114,11 +114,12 @@ abbrev pub links_at : Plan → List ℕ → List WrittenLink
 links_at plan placement = flat_map (links_from plan placement) (spots plan placement)
 
 -- SCENARIOS
--- the scenario of a placement, as it would be written
+-- the scenario of a placement, as it would be written: no clients of it are at named places
 abbrev pub written_at : Plan → List ℕ → WrittenScenario
 written_at plan placement = record plan.written {
   tick = plan.tick;
   groups = groups_in plan;
+  places = [];
   agreements = [];
   links = links_at plan placement;
   messages = map (message_in plan) plan.written.messages;

@@ -1,5 +1,5 @@
 -- What is proved of the scenarios of a plan. Each is the one clause of the function of its name in the crate's module `plan_laws`.
-use Rattle.std.specs.Prelude.{◌≡◌, ◌≢◌, ℕ, ◌<◌, ◌≤◌, List, length, Some, Ok, IsFalse}
+use Rattle.std.specs.Prelude.{◌≡◌, ◌≢◌, ℕ, ◌<◌, ◌≤◌, List, [], length, Some, Ok, IsFalse}
 use Rattle.convoy_scenario.specs.Numbering.{sender_of}
 use Rattle.convoy_scenario.specs.Scenario.{Scenario, message_at, range_between, stamp_takes_time, takes_time}
 use Rattle.convoy_scenario.specs.declared.sender.Sender.{Sender}
@@ -16,7 +16,7 @@ site_of placement (Group g) = site_at placement g
 
 -- who that is in the scenarios of the plan: a group keeps its number
 abbrev pub sender_for : Plan → Origin → Sender
-sender_for plan (Site s) = sender_of (groups_in plan) (sender_in plan (Some (site_name plan s)))
+sender_for plan (Site s) = sender_of (groups_in plan) [] (sender_in plan (Some (site_name plan s)))
 sender_for plan (Group g) = senders.Group g
 
 -- In the scenario of a placement what goes from a place to another group of the plan may take as long as what is written from site to site.

@@ -30,7 +30,8 @@ pub fn scenario_at(
     Ok(scenario_of_written(alloc, &written)?)
 }
 
-/// That scenario as it would be written. Fails where memory runs out, and else never.
+/// That scenario as it would be written: no clients of it are at named places. Fails where memory runs out, and else
+/// never.
 pub fn written_at(
     alloc: Global,
     plan: &Plan,
@@ -45,6 +46,7 @@ pub fn written_at(
         delay: written.delay,
         least: written.least,
         groups: groups_in(alloc, plan)?,
+        places: Vec::new(alloc),
         agreements: Vec::new(alloc),
         links: links_at(alloc, plan, placement)?,
         multicasts: messages_in(alloc, plan)?,

@@ -38,7 +38,7 @@ sent_low : (plan : Scenario) → IsScenario plan → (sender : Sender) (to : ℕ
 unfolding by_link
 sent_low plan well sender to =
     low_between (λ link. is_same_sender sender link.sender && (to == link.to)) plan.links plan.delay
-    (All-weaker (IsLink (length plan.groups) plan.delay) (λ link. 1 ≤ link.least) (λ link is. is.low) plan.links well.links)
+    (All-weaker (IsLink (length plan.groups) (length plan.places) plan.delay) (λ link. 1 ≤ link.least) (λ link is. is.low) plan.links well.links)
 
 module _ (law : DelaysAreWithin) (plan : Scenario) (schedule : Schedule) (well : IsScenario plan) (assigned : IsAssignment plan schedule) where
   arrives_sooner : (m g h : ℕ) → GoesTo plan m g → GoesTo plan m h → (h ≡ g → ⊥) → arrive plan schedule m h < settle plan schedule m g

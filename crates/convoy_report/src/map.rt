@@ -34,9 +34,14 @@ pub(crate) fn map_of(
         write_way(scenario, *way, &mut text)?;
     }
     text.push_str("</g>\n<g fill=\"currentColor\">\n")?;
-    write_place(scenario, 0, "clients", &mut text)?;
+    write_sender(scenario, Sender::Client(0), "clients", &mut text)?;
+    for place in 0..scenario.place_count() {
+        let sender = Sender::Client(place + 1);
+        write_sender(scenario, sender, scenario.place_name(place), &mut text)?;
+    }
     for group in 0..scenario.group_count() {
-        write_place(scenario, group + 1, scenario.group_name(group), &mut text)?;
+        let sender = Sender::Group(group);
+        write_sender(scenario, sender, scenario.group_name(group), &mut text)?;
     }
     text.push_str("</g>\n</svg>\n")?;
     Ok(text)
@@ -69,24 +74,24 @@ fn stamps_words(scenario: &Scenario, way: Way) -> &'static str {
 
 /// Writes the curve of a way: one from a group to itself is a loop.
 fn write_curve(scenario: &Scenario, way: Way, text: &mut String) -> Result<(), AllocError> {
-    let (x, y) = spot(scenario, place_of(way.sender));
+    let (x, y) = spot(scenario, way.sender);
     if way.sender == Sender::Group(way.to) {
         return write!(text, "M{x} {y}c-260 -200 260 -200 0 0");
     }
-    let (to_x, to_y) = spot(scenario, place_of(Sender::Group(way.to)));
+    let (to_x, to_y) = spot(scenario, Sender::Group(way.to));
     let across = (x / 2 + to_x / 2 + to_y / 9).saturating_sub(y / 9);
     let down = (y / 2 + to_y / 2 + x / 9).saturating_sub(to_x / 9);
     write!(text, "M{x} {y}Q{across} {down} {to_x} {to_y}")
 }
 
-/// Writes a place, with its name outside the circle.
-fn write_place(
+/// Writes a place of clients or a group, with its name outside the circle.
+fn write_sender(
     scenario: &Scenario,
-    place: usize,
+    sender: Sender,
     name: &str,
     text: &mut String,
 ) -> Result<(), AllocError> {
-    let (x, y) = spot(scenario, place);
+    let (x, y) = spot(scenario, sender);
     let (anchor, across) = if x < LEFT + 900 {
         ("end", x.saturating_sub(80))
     } else if x > LEFT + 1_100 {
@@ -107,19 +112,23 @@ fn write_place(
     )
 }
 
-/// The place of a sender on the circle: the clients' is at its top.
-fn place_of(sender: Sender) -> usize {
+/// How many stand before a sender on the circle: the clients of no named place are at its top, and those at the named
+/// places come before the groups.
+fn before(scenario: &Scenario, sender: Sender) -> usize {
     match sender {
-        Sender::Client => 0,
-        Sender::Group(group) => group.saturating_add(1),
+        Sender::Client(place) => place,
+        Sender::Group(group) => group
+            .saturating_add(scenario.place_count())
+            .saturating_add(1),
     }
 }
 
-/// How far a place is from the left of the image, and from above.
-fn spot(scenario: &Scenario, place: usize) -> (u32, u32)
+/// How far a sender is from the left of the image, and from above.
+fn spot(scenario: &Scenario, sender: Sender) -> (u32, u32)
     ensures { (result.0 < 70000) × (result.1 < 70000) }
 {
-    let step = place.saturating_mul(36) / (scenario.group_count() + 1) % 36;
+    let count = scenario.place_count() + scenario.group_count() + 1;
+    let step = before(scenario, sender).saturating_mul(36) / count % 36;
     (
         LEFT + u32::from(ROUND[step]),
         TOP + u32::from(ROUND[(step + 27) % 36]),

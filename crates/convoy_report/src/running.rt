@@ -109,6 +109,7 @@ fn accepted(alloc: Global, asking: Asking, found: &[u8]) -> Result<Option<Vec<u8
         | Done::Faulty
         | Done::Refused(_)
         | Done::PlanRefused
+        | Done::WorkflowRefused
         | Done::Differs(_)
         | Done::Departs
         | Done::NotChecked => Ok(None),

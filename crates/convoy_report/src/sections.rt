@@ -57,6 +57,7 @@ pub(crate) fn verdict(judged: bool, done: Done) -> &'static str
             Done::Faulty
             | Done::Refused(_)
             | Done::PlanRefused
+            | Done::WorkflowRefused
             | Done::Differs(_)
             | Done::Departs
             | Done::NotChecked,

@@ -61,13 +61,13 @@ target_name draft among =
     let by_name : DraftMessage → Bool = λ m. bytes_eq draft.target_message m.name in
     let t = message_place draft.target_message draft.messages in
     let within = place_within by_name draft.messages among in
-    let stands : message_at (scenario_of draft) t ≡ message_of draft.groups (get_or draft.messages t nothing) = get_or-map (message_of draft.groups) draft.messages t nothing no_message within in
+    let stands : message_at (scenario_of draft) t ≡ message_of draft.groups draft.places (get_or draft.messages t nothing) = get_or-map (message_of draft.groups draft.places) draft.messages t nothing no_message within in
     ap (λ (m : Message). m.name) stands ∙ sym (same_bytes draft.target_message (get_or draft.messages t nothing).name (place_passes by_name draft.messages nothing among))
 
 pub named_target : (draft : Draft) (scenario : Scenario) → scenario_of_draft draft ≡ Ok scenario → IsNamedTarget draft scenario
 named_target draft scenario e =
     let p = passed (judge (checks draft)) (scenario_of draft) scenario e in
-    let references = (all_hold (checks draft) p.0).1.1.1.1.1.1.1.1.1.1.1.1 in
+    let references = (all_hold (checks draft) p.0).1.1.1.1.1.1.1.1.1.1.1.1.1.1.1 in
     subst (IsNamedTarget draft) p.1 (record {
       message = target_name draft references.1.1.1.1.1.0;
       group = name_at_place draft.target_group draft.groups references.1.0;

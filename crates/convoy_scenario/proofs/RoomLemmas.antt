@@ -59,8 +59,8 @@ room_decided plan = (room_told plan, room_from plan)
 -- a message that does not wait has room
 pub still_room : StillTargetsHaveRoom
 still_room plan m g is known none =
-    let formed : (k : ℕ) → k < length plan.multicasts → IsMulticast (length plan.groups) (message_at plan k) =
-    λ k l. All-get_or (IsMulticast (length plan.groups)) plan.multicasts k no_message l is.messages in
+    let formed : (k : ℕ) → k < length plan.multicasts → IsMulticast (length plan.groups) (length plan.places) (message_at plan k) =
+    λ k l. All-get_or (IsMulticast (length plan.groups) (length plan.places)) plan.multicasts k no_message l is.messages in
     record {
       last = let at = (formed m known).at in omega (arith, at, none);
       others = λ k d l. let wait = (formed k l).wait in omega (arith, wait, none);

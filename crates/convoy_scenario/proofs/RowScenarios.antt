@@ -17,6 +17,7 @@ of_two time delay messages target_message target_group = record {
   tick = None;
   delay = delay;
   groups = codes "a" ∷ codes "b" ∷ [];
+  places = [];
   links = [];
   multicasts = messages;
   target_message = target_message;
@@ -27,7 +28,7 @@ of_two time delay messages target_message target_group = record {
 -- which y is issued
 unfoldable pub base_with : ℕ → ℕ → Scenario
 base_with delay at =
-    of_two Ticks delay (message (codes "x") Client (1 ∷ []) 0 ∷ message (codes "t") Client (0 ∷ 1 ∷ []) 0
+    of_two Ticks delay (message (codes "x") (Client 0) (1 ∷ []) 0 ∷ message (codes "t") (Client 0) (0 ∷ 1 ∷ []) 0
     ∷ message (codes "y") (Group 0) (0 ∷ 1 ∷ []) at ∷ []) 1 0
 
 abbrev pub base_with_y_at : ℕ → Scenario
@@ -39,19 +40,19 @@ base = base_with_y_at 6
 
 -- the base with its groups in the order b, a, where nothing holds t back
 unfoldable pub swapped : Scenario
-swapped = record (of_two Ticks 3 (message (codes "x") Client (0 ∷ []) 0 ∷ message (codes "t") Client (0 ∷ 1 ∷ []) 0
+swapped = record (of_two Ticks 3 (message (codes "x") (Client 0) (0 ∷ []) 0 ∷ message (codes "t") (Client 0) (0 ∷ 1 ∷ []) 0
     ∷ message (codes "y") (Group 1) (0 ∷ 1 ∷ []) 6 ∷ []) 1 1) { groups = codes "b" ∷ codes "a" ∷ [] }
 
 -- in real time t and x come to b in one tick, and y comes to a in the tick of t's commit there
 unfoldable pub tied : Scenario
-tied = of_two Real 1 (message (codes "t") Client (0 ∷ 1 ∷ []) 0 ∷ message (codes "x") Client (1 ∷ []) 0
+tied = of_two Real 1 (message (codes "t") (Client 0) (0 ∷ 1 ∷ []) 0 ∷ message (codes "x") (Client 0) (1 ∷ []) 0
     ∷ message (codes "y") (Group 0) (0 ∷ 1 ∷ []) 2 ∷ []) 0 0
 
 -- groups c, a, b and messages u, v, t, w1, w2, n, with fifteen packets. Three messages go to a, but u and v may raise
 -- the clock there twice, so that t gets the time 4 and waits for n
 unfoldable pub raised_twice : Scenario
-raised_twice = record (of_two Ticks 3 (message (codes "u") Client (1 ∷ 2 ∷ []) 0 ∷ message (codes "v") Client (1 ∷ 2 ∷ []) 0
-    ∷ message (codes "t") Client (0 ∷ 1 ∷ []) 5 ∷ message (codes "w1") (Group 0) (0 ∷ []) 9
+raised_twice = record (of_two Ticks 3 (message (codes "u") (Client 0) (1 ∷ 2 ∷ []) 0 ∷ message (codes "v") (Client 0) (1 ∷ 2 ∷ []) 0
+    ∷ message (codes "t") (Client 0) (0 ∷ 1 ∷ []) 5 ∷ message (codes "w1") (Group 0) (0 ∷ []) 9
     ∷ message (codes "w2") (Group 0) (0 ∷ []) 9 ∷ message (codes "n") (Group 0) (0 ∷ 2 ∷ []) 10 ∷ []) 2 0) {
       groups = codes "c" ∷ codes "a" ∷ codes "b" ∷ [];
     }

@@ -1,5 +1,5 @@
 -- Worked rows: what the definitions give for some drafts.
-use Rattle.std.proofs.Common.{◌≡◌, refl, true, false, ℕ, pos, negsuc, List, [], ◌∷◌, Option, Some, None, Ok, Err, codes}
+use Rattle.std.proofs.Common.{◌≡◌, refl, true, false, ℕ, pos, negsuc, List, [], ◌∷◌, replicate, Option, Some, None, Ok, Err, codes}
 use Rattle.convoy_draft.specs.declared.fault.ScenarioFault.TheVariants.{OverLimit, BadName, DoubleName, UnknownGroup, NoDestination, DoubleDestination, UnknownTarget, TargetNotAddressed}
 use Rattle.convoy_draft.specs.declared.fault.Limit.TheVariants as limit
 use Rattle.convoy_scenario.specs.declared.sender.Sender.TheVariants.{Client, Group}
@@ -16,6 +16,7 @@ base = record {
   tick = None;
   delay = pos 3;
   groups = codes "a" ∷ codes "b" ∷ [];
+  places = [];
   links = [];
   messages =
       record { name = codes "x"; sender = None; to = codes "b" ∷ []; at = pos 0; until = pos 0 }
@@ -29,8 +30,8 @@ base = record {
 -- the scenario of it, in which y and t may wait so long
 abbrev base_scenario_where_both_wait : ℕ → ℕ → Scenario
 base_scenario_where_both_wait y t =
-    of_two Ticks 3 (record { name = codes "x"; sender = Client; destinations = 1 ∷ []; at = 0; longest_wait = 0 }
-    ∷ record { name = codes "t"; sender = Client; destinations = 0 ∷ 1 ∷ []; at = 0; longest_wait = t }
+    of_two Ticks 3 (record { name = codes "x"; sender = Client 0; destinations = 1 ∷ []; at = 0; longest_wait = 0 }
+    ∷ record { name = codes "t"; sender = Client 0; destinations = 0 ∷ 1 ∷ []; at = 0; longest_wait = t }
     ∷ record { name = codes "y"; sender = Group 0; destinations = 0 ∷ 1 ∷ []; at = 6; longest_wait = y }
     ∷ []) 1 0
 
@@ -138,7 +139,7 @@ abbrev link : Option (List ℕ) → List ℕ → ℕ → ℕ → DraftLink
 link sender to least most = record { sender = sender; to = to; least = pos least; most = pos most; stamps = false }
 
 links_numbered : scenario_of_draft (linked (link (Some (codes "b")) (codes "a") 1 1 ∷ link (Some (codes "a")) (codes "b") 1 3 ∷ link None (codes "b") 2 3 ∷ [])) ≡ Ok (record base_scenario {
-  links = record { sender = Client; to = 1; least = 2; most = 3; stamps = false } ∷ record { sender = Group 1; to = 0; least = 1; most = 1; stamps = false } ∷ [];
+  links = record { sender = Client 0; to = 1; least = 2; most = 3; stamps = false } ∷ record { sender = Group 1; to = 0; least = 1; most = 1; stamps = false } ∷ [];
 })
 links_numbered = refl
 
@@ -164,8 +165,8 @@ link_to_itself : (takes_time (record base_scenario { links = record { sender = G
     ≡ record { sender = Group 0; to = 0; least = 1; most = 3; stamps = false } ∷ [])
 link_to_itself = (refl, refl, refl)
 
-ranges_between : (range_between (record base_scenario { links = record { sender = Client; to = 1; least = 2; most = 3; stamps = false } ∷ record { sender = Group 1; to = 0; least = 1; most = 1; stamps = false } ∷ [] }) (Group 1) 0 ≡ (1, 1))
-    × (range_between (record base_scenario { links = record { sender = Client; to = 1; least = 2; most = 3; stamps = false } ∷ record { sender = Group 1; to = 0; least = 1; most = 1; stamps = false } ∷ [] }) (Group 0) 1 ≡ (1, 3))
+ranges_between : (range_between (record base_scenario { links = record { sender = Client 0; to = 1; least = 2; most = 3; stamps = false } ∷ record { sender = Group 1; to = 0; least = 1; most = 1; stamps = false } ∷ [] }) (Group 1) 0 ≡ (1, 1))
+    × (range_between (record base_scenario { links = record { sender = Client 0; to = 1; least = 2; most = 3; stamps = false } ∷ record { sender = Group 1; to = 0; least = 1; most = 1; stamps = false } ∷ [] }) (Group 0) 1 ≡ (1, 3))
 ranges_between = (refl, refl)
 
 -- a tick in whole ticks, and D above 16 there
@@ -177,3 +178,57 @@ no_tick_at_all = refl
 
 long_delay : scenario_of_draft (record base { time = Real; delay = pos 65535 }) ≡ Ok (record base_scenario { time = Real; delay = 65535 })
 long_delay = refl
+
+-- ---- places
+
+-- the base draft with two places, where x is sent from the second, t from the first and y by a client at none
+abbrev placed : Draft
+placed = record base {
+  places = codes "eu" ∷ codes "us" ∷ [];
+  links = record { sender = Some (codes "us"); to = codes "b"; least = pos 2; most = pos 2; stamps = false }
+      ∷ record { sender = Some (codes "b"); to = codes "a"; least = pos 1; most = pos 1; stamps = false }
+      ∷ record { sender = None; to = codes "b"; least = pos 2; most = pos 3; stamps = false }
+      ∷ [];
+  messages =
+      record { name = codes "x"; sender = Some (codes "us"); to = codes "b" ∷ []; at = pos 0; until = pos 0 }
+      ∷ record { name = codes "t"; sender = Some (codes "eu"); to = codes "b" ∷ codes "a" ∷ []; at = pos 0; until = pos 0 }
+      ∷ record { name = codes "y"; sender = None; to = codes "a" ∷ codes "b" ∷ []; at = pos 6; until = pos 6 }
+      ∷ [];
+}
+
+-- clients at places are numbered from 1, and their links stand before those of groups
+placed_numbered : scenario_of_draft placed ≡ Ok (record base_scenario {
+  places = codes "eu" ∷ codes "us" ∷ [];
+  links = record { sender = Client 0; to = 1; least = 2; most = 3; stamps = false }
+      ∷ record { sender = Client 2; to = 1; least = 2; most = 2; stamps = false }
+      ∷ record { sender = Group 1; to = 0; least = 1; most = 1; stamps = false }
+      ∷ [];
+  multicasts = record { name = codes "x"; sender = Client 2; destinations = 1 ∷ []; at = 0; longest_wait = 0 }
+      ∷ record { name = codes "t"; sender = Client 1; destinations = 0 ∷ 1 ∷ []; at = 0; longest_wait = 0 }
+      ∷ record { name = codes "y"; sender = Client 0; destinations = 0 ∷ 1 ∷ []; at = 6; longest_wait = 0 }
+      ∷ [];
+})
+placed_numbered = refl
+
+-- nothing goes to a place, neither a message nor a link
+place_addressed : scenario_of_draft (record placed { messages = record { name = codes "t"; sender = None; to = codes "eu" ∷ []; at = pos 0; until = pos 0 } ∷ [] }) ≡ Err UnknownGroup
+place_addressed = refl
+
+place_linked : scenario_of_draft (record placed { links = record { sender = None; to = codes "us"; least = pos 1; most = pos 1; stamps = false } ∷ [] }) ≡ Err UnknownGroup
+place_linked = refl
+
+place_asked : scenario_of_draft (record placed { target_group = codes "eu" }) ≡ Err UnknownGroup
+place_asked = refl
+
+-- a place has a name of its own, which is not client
+double_place : scenario_of_draft (record placed { places = codes "eu" ∷ codes "eu" ∷ [] }) ≡ Err DoubleName
+double_place = refl
+
+group_as_place : scenario_of_draft (record placed { places = codes "a" ∷ [] }) ≡ Err DoubleName
+group_as_place = refl
+
+bad_place : scenario_of_draft (record placed { places = codes "client" ∷ [] }) ≡ Err BadName
+bad_place = refl
+
+many_places : scenario_of_draft (record placed { places = replicate 9 (codes "eu") }) ≡ Err (OverLimit limit.Places)
+many_places = refl

@@ -1,5 +1,5 @@
 -- What takes time: all that goes to another place, and what a group sends to itself by a link.
-use Rattle.std.proofs.Common.{◌≡◌, ℕ, ◌==◌, ◌&&◌, ◌||◌, Bool, true, false, not, List, [], ◌∷◌, get_or, None, refl, ap, sym, subst, ◌∙◌, arith, inl, inr}
+use Rattle.std.proofs.Common.{◌≡◌, ℕ, ◌==◌, ◌&&◌, ◌||◌, Bool, true, false, not, List, [], ◌∷◌, refl, ap, sym, subst, inl, inr}
 use Rattle.std.specs.List.{find, AllByRecursion}
 use Rattle.std.specs.Option.{is_some, option_map_or}
 use Rattle.std.proofs.lemmas.Bool.{and_parts, cases_Bool, eqb-true, eq-eqb}
@@ -7,7 +7,7 @@ use Rattle.convoy_scenario.specs.declared.sender.Sender.{Sender}
 use Rattle.convoy_scenario.specs.declared.sender.Sender.TheVariants.{Client, Group}
 use Rattle.convoy_draft.specs.Checks.{checks, judge}
 use Rattle.convoy_scenario.specs.Numbering.{delay_of_draft, in_order, links_of_draft, scenario_of}
-use Rattle.convoy_scenario.specs.Scenario.{HaveSameHomes, Link, Scenario, is_same_sender, link_between, stamp_takes_time, takes_time}
+use Rattle.convoy_scenario.specs.Scenario.{HaveSameHomes, Link, Scenario, is_same_sender, stamp_takes_time, takes_time}
 use Rattle.convoy_scenario.specs.ScenarioLaws.{HomesDecideWhatTakesTime, OrderKeepsWhatTakesTime}
 use Rattle.convoy_scenario.specs.WellFormed.{is_whole}
 use Rattle.convoy_scenario.proofs.GivenScenarios.{passed}
@@ -15,7 +15,7 @@ use Rattle.convoy_scenario.proofs.KeptRanges.{AreApart, all_apart, leads, none_a
 use Rattle.convoy_scenario.proofs.NumberedLemmas.{passes}
 
 same_messages : (plan other : Scenario) → HaveSameHomes plan other → (sender : Sender) (to : ℕ) → takes_time other sender to ≡ takes_time plan sender to
-same_messages plan other homes Client to = refl
+same_messages plan other homes (Client p) to = refl
 same_messages plan other homes (Group g) to = elim (cases_Bool (g == to)) [
   | inl home ↦ subst (λ (k : ℕ). takes_time other (Group k) to ≡ takes_time plan (Group k) to) (sym (eqb-true g to home)) (homes.messages to)
   | inr away ↦ rw away refl
@@ -63,7 +63,7 @@ pub taking_kept : OrderKeepsWhatTakesTime
 taking_kept draft scenario e =
     let p = passed (judge (checks draft)) (scenario_of draft) scenario e in
     let is = passes draft p.0 in
-    let apart = all_apart draft.groups draft.links is.links_differ is.ends in
+    let apart = all_apart draft.groups draft.places draft.links is.links_differ is.ends in
     let given = record scenario { links = links_of_draft draft } in
     let kept = λ (g : ℕ). home_kept (delay_of_draft draft) g (links_of_draft draft) apart in
     same_takes given scenario (record {

@@ -96,22 +96,22 @@ module _ (plan : Scenario) where
   ]
 
 module _ (plan : Scenario) (is : IsScenario plan) where
-  message_formed : (m : ℕ) → m < length plan.multicasts → IsMulticast (length plan.groups) (message_at (widened plan) m)
+  message_formed : (m : ℕ) → m < length plan.multicasts → IsMulticast (length plan.groups) (length plan.places) (message_at (widened plan) m)
   message_formed m l =
-      let old = All-get_or (IsMulticast (length plan.groups)) plan.multicasts m no_message l is.messages in
+      let old = All-get_or (IsMulticast (length plan.groups) (length plan.places)) plan.multicasts m no_message l is.messages in
       elim (cases_eq m plan.target_message) [
         | inl e ↦
             let last : (message_at plan m).at + target_wait plan ≤ GREATEST_AT = subst (λ n. (message_at plan n).at + target_wait plan ≤ GREATEST_AT) (sym e) is.room.last in
-            subst (IsMulticast (length plan.groups)) (sym (message_is plan m l ∙ at_end (target_wait plan) plan.target_message m (message_at plan m) e))
+            subst (IsMulticast (length plan.groups) (length plan.places)) (sym (message_is plan m l ∙ at_end (target_wait plan) plan.target_message m (message_at plan m) e))
             (record { name = old.name; sender = old.sender; destinations = old.destinations; ascending = old.ascending; known = old.known; at = last; wait = omega arith })
         | inr d ↦
-            subst (IsMulticast (length plan.groups)) (sym (message_is plan m l ∙ waits_longer (target_wait plan) plan.target_message m (message_at plan m) d))
+            subst (IsMulticast (length plan.groups) (length plan.places)) (sym (message_is plan m l ∙ waits_longer (target_wait plan) plan.target_message m (message_at plan m) d))
             (record { name = old.name; sender = old.sender; destinations = old.destinations; ascending = old.ascending; known = old.known; at = old.at; wait = is.room.others m d l })
       ]
 
-  messages_formed : All (IsMulticast (length plan.groups)) (widened plan).multicasts
+  messages_formed : All (IsMulticast (length plan.groups) (length plan.places)) (widened plan).multicasts
   messages_formed =
-      All-from_get_or (IsMulticast (length plan.groups)) (widened plan).multicasts no_message
+      All-from_get_or (IsMulticast (length plan.groups) (length plan.places)) (widened plan).multicasts no_message
       (λ i l. message_formed i (omega (arith, many plan, l)))
 
   -- the target does not wait, and each window is one that a message may have
@@ -136,10 +136,14 @@ module _ (plan : Scenario) (is : IsScenario plan) where
     tick = is.tick;
     groups_low = is.groups_low;
     groups_high = is.groups_high;
+    places_high = is.places_high;
     multicasts_low = subst (λ n. 1 ≤ n) (sym (many plan)) is.multicasts_low;
     multicasts_high = subst (λ n. n ≤ MOST_MULTICASTS) (sym (many plan)) is.multicasts_high;
     group_names = is.group_names;
     group_names_differ = is.group_names_differ;
+    place_names = is.place_names;
+    place_names_differ = is.place_names_differ;
+    places_apart = is.places_apart;
     message_names_differ = names_differ (target_wait plan) plan.target_message 0 plan.multicasts is.message_names_differ;
     links = is.links;
     ascending = is.ascending;

@@ -1,5 +1,5 @@
 -- The scenario of a draft, with numbers in place of names. Each word here has a value for any draft; only where all the checks hold do they mean what they say.
-use Rattle.std.specs.Prelude.{ℕ, ◌-◌, ◌&&◌, if◌then◌else◌, List, [], ◌∷◌, map, length, filter, Option, Some, None, unwrap_or, position, Result, Ok, Err}
+use Rattle.std.specs.Prelude.{ℕ, ◌+◌, ◌-◌, ◌&&◌, if◌then◌else◌, List, [], ◌∷◌, map, length, filter, Option, Some, None, unwrap_or, position, Result, Ok, Err}
 use Rattle.std.specs.List.{range_with_len}
 use Rattle.std.specs.Result.{result_and}
 use Rattle.std.specs.Str.{bytes_eq}
@@ -24,33 +24,33 @@ place name names = unwrap_or (position (bytes_eq name) names) 0
 abbrev pub message_place : List ℕ → List DraftMessage → ℕ
 message_place name messages = unwrap_or (position (λ message. bytes_eq name message.name) messages) 0
 
--- the sender that is written so
-abbrev pub sender_of : List (List ℕ) → Option (List ℕ) → Sender
-sender_of groups None = Client
-sender_of groups (Some name) = Group (place name groups)
+-- the sender that is written so, among these groups and places
+abbrev pub sender_of : List (List ℕ) → List (List ℕ) → Option (List ℕ) → Sender
+sender_of groups places None = Client 0
+sender_of groups places (Some name) = if is_among name groups then Group (place name groups) else Client (place name places + 1)
 
 -- the numbers of the groups that are named, ascending
 abbrev pub numbers_of : List (List ℕ) → List (List ℕ) → List ℕ
 numbers_of groups named = filter (λ g. is_among (get_or groups g []) named) (range_with_len 0 (length groups))
 
 -- a message with numbers
-abbrev pub message_of : List (List ℕ) → DraftMessage → Message
-message_of groups message = record {
+abbrev pub message_of : List (List ℕ) → List (List ℕ) → DraftMessage → Message
+message_of groups places message = record {
   name = message.name;
-  sender = sender_of groups message.sender;
+  sender = sender_of groups places message.sender;
   destinations = numbers_of groups message.to;
   at = ticks GREATEST_AT message.at;
   longest_wait = ticks GREATEST_UNTIL message.until - ticks GREATEST_AT message.at;
 }
 
 -- a link with numbers; only one from a group to itself is for stamps, too
-abbrev pub link_of : List (List ℕ) → DraftLink → Link
-link_of groups link = record {
-  sender = sender_of groups link.sender;
+abbrev pub link_of : List (List ℕ) → List (List ℕ) → DraftLink → Link
+link_of groups places link = record {
+  sender = sender_of groups places link.sender;
   to = place link.to groups;
   least = ticks GREATEST_DELAY link.least;
   most = ticks GREATEST_DELAY link.most;
-  stamps = link.stamps && is_same_sender (sender_of groups link.sender) (Group (place link.to groups));
+  stamps = link.stamps && is_same_sender (sender_of groups places link.sender) (Group (place link.to groups));
 }
 
 -- a link put among others that ascend; of two between the same places the one that is there stays
@@ -72,7 +72,7 @@ delay_of_draft draft = ticks GREATEST_DELAY draft.delay
 
 -- the links of a scenario as it is written, with numbers
 abbrev pub links_of_draft : Draft → List Link
-links_of_draft draft = map (link_of draft.groups) draft.links
+links_of_draft draft = map (link_of draft.groups draft.places) draft.links
 
 -- a scenario with numbers
 abbrev pub scenario_of : Draft → Scenario
@@ -81,8 +81,9 @@ scenario_of draft = record {
   tick = draft.tick;
   delay = delay_of_draft draft;
   groups = draft.groups;
+  places = draft.places;
   links = in_order (delay_of_draft draft) (links_of_draft draft);
-  multicasts = map (message_of draft.groups) draft.messages;
+  multicasts = map (message_of draft.groups draft.places) draft.messages;
   target_message = message_place draft.target_message draft.messages;
   target_group = place draft.target_group draft.groups;
 }

@@ -1,5 +1,5 @@
 -- What a scenario says, as plain data: groups and messages go by number, from 0, in the order of the text.
-use Rattle.std.specs.Prelude.{◌≡◌, ℕ, ◌+◌, nat_lt, Bool, true, false, ◌==◌, ◌&&◌, ◌||◌, not, List, [], length, find, slice_index_or, Option, IsTrue}
+use Rattle.std.specs.Prelude.{◌≡◌, ℕ, ◌+◌, ◌-◌, nat_lt, Bool, true, false, ◌==◌, ◌&&◌, ◌||◌, not, List, [], length, find, slice_index_or, Option, IsTrue}
 use Rattle.std.specs.List.{list_any, range_with_len}
 use Rattle.std.specs.Option.{is_some, option_map_or}
 use Rattle.convoy_scenario.specs.declared.sender.Sender.{Sender}
@@ -23,12 +23,13 @@ pub record Link : Type 0 where
   pub most : ℕ
   pub stamps : Bool
 
--- a scenario: how time goes in it, how many nanoseconds a tick lasts where that is known, D, the groups' names, the links but for those between two places whose range is 1 to D, the messages, and the message and the group of which the latency is asked
+-- a scenario: how time goes in it, how many nanoseconds a tick lasts where that is known, D, the groups' names, the names of the places at which clients are, the links but for those between two places whose range is 1 to D, the messages, and the message and the group of which the latency is asked
 pub record Scenario : Type 0 where
   pub time : Time
   pub tick : Option ℕ
   pub delay : ℕ
   pub groups : List (List ℕ)
+  pub places : List (List ℕ)
   pub links : List Link
   pub multicasts : List Message
   pub target_message : ℕ
@@ -36,7 +37,7 @@ pub record Scenario : Type 0 where
 
 -- what stands for a message past the last one: it goes to no group
 abbrev pub no_message : Message
-no_message = record { name = []; sender = Client; destinations = []; at = 0; longest_wait = 0 }
+no_message = record { name = []; sender = Client 0; destinations = []; at = 0; longest_wait = 0 }
 
 -- the message of that number
 abbrev pub message_at : Scenario → ℕ → Message
@@ -54,16 +55,20 @@ window_of message = (message.at, message.at + message.longest_wait)
 abbrev pub has_own_stamps : Scenario → Bool
 has_own_stamps scenario = list_any (λ link. link.stamps) scenario.links
 
--- time is real, or some message may wait, or some group's own stamps take time: lines that tell such a scenario say how time goes
+-- time is real, or some message may wait, or some group's own stamps take time, or clients are at named places: lines that tell such a scenario say how time goes
 abbrev pub is_timed : Scenario → Bool
 is_timed scenario = by_time scenario.time where
   by_time : Time → Bool
   by_time Real = true
-  by_time Ticks = list_any may_wait scenario.multicasts || has_own_stamps scenario
+  by_time Ticks = list_any may_wait scenario.multicasts || has_own_stamps scenario || nat_lt 0 (length scenario.places)
 
 -- the name of the group of that number
 abbrev pub group_name_at : Scenario → ℕ → List ℕ
 group_name_at scenario g = slice_index_or scenario.groups g []
+
+-- the name of the place of that number, from 1
+abbrev pub place_name_at : Scenario → ℕ → List ℕ
+place_name_at scenario p = slice_index_or scenario.places (p - 1) []
 
 -- the numbers of the messages
 abbrev pub message_numbers : Scenario → List ℕ
@@ -79,10 +84,10 @@ GoesTo scenario m g = IsTrue (is_addressed (message_at scenario m) g)
 
 -- the two are one sender
 abbrev pub is_same_sender : Sender → Sender → Bool
-is_same_sender Client Client = true
+is_same_sender (Client p) (Client q) = p == q
 is_same_sender (Group g) (Group h) = g == h
-is_same_sender Client (Group h) = false
-is_same_sender (Group g) Client = false
+is_same_sender (Client p) (Group h) = false
+is_same_sender (Group g) (Client q) = false
 
 -- the link from the one to the other, if there is one
 abbrev pub link_between : List Link → Sender → ℕ → Option Link
@@ -98,7 +103,7 @@ stamp_takes_time scenario from to = not (from == to) || option_map_or (λ link. 
 
 -- the sender is the group itself, and the stamps that it proposes to itself take time
 abbrev pub own_stamps_take_time : Scenario → Sender → ℕ → Bool
-own_stamps_take_time scenario Client to = false
+own_stamps_take_time scenario (Client p) to = false
 own_stamps_take_time scenario (Group g) to = (g == to) && stamp_takes_time scenario g to
 
 -- the same takes time in both scenarios

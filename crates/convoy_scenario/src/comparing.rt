@@ -3,7 +3,8 @@ ghost use Rattle.convoy_scenario.specs.Differences.{AgreeIn, IsFirstDifference, 
 
 use super::part::Part;
 use super::same_parts::{
-    has_same_groups, has_same_links, has_same_messages, has_same_target, is_same_tick,
+    has_same_groups, has_same_links, has_same_messages, has_same_places, has_same_target,
+    is_same_tick,
 };
 use super::scenario::Scenario;
 
@@ -18,6 +19,7 @@ pub fn difference(wanted: &Scenario, other: &Scenario) -> Option<Part>
             Part::Tick,
             Part::Delay,
             Part::Groups,
+            Part::Places,
             Part::Links,
             Part::Multicasts,
             Part::Target,
@@ -49,6 +51,7 @@ pub fn agree_in(wanted: &Scenario, other: &Scenario, part: Part) -> bool
         Part::Tick => is_same_tick(wanted.tick(), other.tick()),
         Part::Delay => other.delay() == wanted.delay(),
         Part::Groups => has_same_groups(wanted, other),
+        Part::Places => has_same_places(wanted, other),
         Part::Links => has_same_links(wanted, other),
         Part::Multicasts => has_same_messages(wanted, other),
         Part::Target => has_same_target(wanted, other),

@@ -6,8 +6,8 @@ pub use comparing::{agree_in, difference};
 pub use convoy_draft::{
     AllocResult, DraftLink, DraftMulticast, DraftScenario, Duration, GREATEST_AT, GREATEST_DELAY,
     GREATEST_UNTIL, GREATEST_WHOLE_DELAY, Key, LONGEST_DURATION, LONGEST_NAME, LONGEST_WAIT, Limit,
-    MOST_GROUPS, MOST_LINKS, MOST_MULTICASTS, MOST_UNITS, Name, ScenarioFault, Time, TimeUnit,
-    is_named_alike, is_within,
+    MOST_GROUPS, MOST_LINKS, MOST_MULTICASTS, MOST_PLACES, MOST_UNITS, Name, ScenarioFault, Time,
+    TimeUnit, is_named_alike, is_within,
 };
 pub use link::{Link, is_same_sender};
 pub use part::Part;

@@ -15,7 +15,7 @@ pub fn sender_of(scenario: &Scenario, message: usize) -> Sender
     if message < scenario.message_count() {
         scenario.sender(message)
     } else {
-        Sender::Client
+        Sender::Client(0)
     }
 }
 

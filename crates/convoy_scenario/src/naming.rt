@@ -1,9 +1,9 @@
 //! The parts of a scenario by their names, as they stand in a draft of it: groups and messages that it has not
 //! have the name without a byte.
 
-ghost use Rattle.std.specs.Prelude.{◌≡◌, ◌<◌, length, map, IfOk};
+ghost use Rattle.std.specs.Prelude.{◌≡◌, ◌<◌, ◌≤◌, length, map, IfOk};
 ghost use Rattle.convoy_scenario.specs.Naming.{draft_link, draft_message, sender_name, sender_word};
-ghost use Rattle.convoy_scenario.specs.Scenario.{group_name_at, message_at};
+ghost use Rattle.convoy_scenario.specs.Scenario.{group_name_at, message_at, place_name_at};
 
 use super::link::Link;
 use super::scenario::Scenario;
@@ -22,6 +22,18 @@ pub fn group_name(scenario: &Scenario, group: usize) -> &str
     }
 }
 
+/// The name of a place, from 1, and none for a place that the scenario has not.
+pub fn place_name(scenario: &Scenario, place: usize) -> &str
+    requires { 1 ≤ place }
+    ensures { result.now ≡ place_name_at scenario.now place }
+{
+    if place <= scenario.place_count() {
+        scenario.place_name(place - 1)
+    } else {
+        ""
+    }
+}
+
 /// The name of a message, and none for a message that the scenario has not.
 pub fn message_name(scenario: &Scenario, message: usize) -> &str
     ensures { result.now ≡ (message_at scenario.now message).name }
@@ -33,12 +45,13 @@ pub fn message_name(scenario: &Scenario, message: usize) -> &str
     }
 }
 
-/// The word for a sender: `client`, or the name of the group.
+/// The word for a sender: `client`, or the name of the place or of the group.
 pub fn sender_word(scenario: &Scenario, sender: Sender) -> &str
     ensures { result.now ≡ sender_word scenario.now sender }
 {
     match sender {
-        Sender::Client => "client",
+        Sender::Client(0) => "client",
+        Sender::Client(place) => place_name(scenario, place),
         Sender::Group(group) => group_name(scenario, group),
     }
 }
@@ -54,6 +67,17 @@ pub fn draft_groups(alloc: Global, scenario: &Scenario) -> Result<Vec<Name>, All
     Ok(names)
 }
 
+/// The names of all places, in their order. Fails where memory runs out, and else never.
+pub fn draft_places(alloc: Global, scenario: &Scenario) -> Result<Vec<Name>, AllocError>
+    ensures { IfOk result (λ names. names.items ≡ scenario.now.places) }
+{
+    let mut names = Vec::new(alloc);
+    for place in 0..scenario.place_count() {
+        names.push(Name::new(alloc, scenario.place_name(place))?)?;
+    }
+    Ok(names)
+}
+
 /// A group by name. Fails where memory runs out, and else never.
 pub fn draft_group(alloc: Global, scenario: &Scenario, group: usize) -> Result<Name, AllocError>
     ensures { IfOk result (λ name. name ≡ group_name_at scenario.now group) }
@@ -61,7 +85,7 @@ pub fn draft_group(alloc: Global, scenario: &Scenario, group: usize) -> Result<N
     Name::new(alloc, group_name(scenario, group))
 }
 
-/// A sender by name, which is none for a client. Fails where memory runs out, and else never.
+/// A sender by name, which is none for a client of no named place. Fails where memory runs out, and else never.
 pub fn draft_sender(
     alloc: Global,
     scenario: &Scenario,
@@ -70,7 +94,8 @@ pub fn draft_sender(
     ensures { IfOk result (λ name. name ≡ sender_name scenario.now sender) }
 {
     match sender {
-        Sender::Client => Ok(None),
+        Sender::Client(0) => Ok(None),
+        Sender::Client(place) => Ok(Some(Name::new(alloc, place_name(scenario, place))?)),
         Sender::Group(group) => Ok(Some(draft_group(alloc, scenario, group)?)),
     }
 }

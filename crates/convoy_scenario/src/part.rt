@@ -1,7 +1,7 @@
 ghost use Rattle.std.specs.Prelude.{◌≡◌};
 ghost use Rattle.convoy_scenario.specs.Differences.{part_word};
 
-use self::Part::{Delay, Groups, Links, Multicasts, Target, Tick, Time};
+use self::Part::{Delay, Groups, Links, Multicasts, Places, Target, Tick, Time};
 
 /// A part of a scenario, in the order in which scenarios are compared.
 #[derive(Clone, Copy, PartialEq, Eq)]
@@ -14,6 +14,8 @@ pub enum Part {
     Delay,
     /// The groups, by their names and in their order.
     Groups,
+    /// The places of clients, by their names and in their order.
+    Places,
     /// The links, but for those between two places whose range is 1 to D.
     Links,
     /// The messages, in their order.
@@ -32,6 +34,7 @@ impl Part {
             Tick => "tick",
             Delay => "delay",
             Groups => "groups",
+            Places => "places",
             Links => "link",
             Multicasts => "multicast",
             Target => "target",

@@ -8,7 +8,7 @@ use std::marker::Model;
 #[derive(Drop)]
 pub struct MessageParts<'a> {
     pub name: &'a str,
-    /// The group that sends it, or none where a client does.
+    /// The group that sends it, or the place of the client that does; none for a client of no named place.
     pub sender: Option<&'a str>,
     /// The groups that it goes to, in any order.
     pub to: &'a [&'a str],
@@ -36,7 +36,7 @@ impl<'a> Model for MessageParts<'a> {
 /// A link in plain parts: what goes from the sender to the group `to` takes `least` to `most` ticks.
 #[derive(Drop)]
 pub struct LinkParts<'a> {
-    /// The group that sends, or none where a client does.
+    /// The group that sends, or the place of the clients that do; none for clients of no named place.
     pub sender: Option<&'a str>,
     pub to: &'a str,
     /// The least delay, in ticks.
@@ -73,6 +73,8 @@ pub struct ScenarioParts<'a> {
     pub delay: u32,
     /// The names of the groups.
     pub groups: &'a [&'a str],
+    /// The names of the places at which clients are.
+    pub places: &'a [&'a str],
     /// The links, in any order; between places without a link a packet takes 1 to `delay` ticks, and what a group sends to
     /// itself by none takes no time.
     pub links: &'a [LinkParts<'a>],
@@ -95,6 +97,7 @@ impl<'a> Model for ScenarioParts<'a> {
       tick = s.tick;
       delay = pos s.delay;
       groups = map (λ name. name.now) s.groups.now;
+      places = map (λ name. name.now) s.places.now;
       links = s.links.now;
       messages = s.messages.now;
       target_message = s.target_message.now;
@@ -112,6 +115,7 @@ impl<'a> ScenarioParts<'a> {
             tick: self.tick,
             delay: i64::from(self.delay),
             groups: names_of(alloc, self.groups)?,
+            places: names_of(alloc, self.places)?,
             links: links_of(alloc, self.links)?,
             multicasts: messages_of(alloc, self.messages)?,
             target_message: Name::new(alloc, self.target_message)?,

@@ -1,9 +1,9 @@
 //! Whether two scenarios are the same in one part.
 
-ghost use Rattle.std.specs.Prelude.{◌≡◌, ◌↔◌, ◌<◌, length, IsTrue};
+ghost use Rattle.std.specs.Prelude.{◌≡◌, ◌↔◌, ◌<◌, [], length, slice_index_or, IsTrue};
 ghost use Rattle.convoy_scenario.specs.Scenario.{message_at, group_name_at};
 ghost use Rattle.convoy_scenario.specs.Differences.{AgreeIn};
-ghost use Rattle.convoy_scenario.specs.declared.part.Part.TheVariants.{Groups, Links, Multicasts, Target};
+ghost use Rattle.convoy_scenario.specs.declared.part.Part.TheVariants.{Groups, Links, Multicasts, Places, Target};
 
 use super::link::Link;
 use super::scenario::Scenario;
@@ -42,6 +42,30 @@ fn has_same_group(wanted: &Scenario, other: &Scenario, group: usize) -> bool
     ensures { IsTrue result ↔ (group_name_at other.now group ≡ group_name_at wanted.now group) }
 {
     other.group_name(group) == wanted.group_name(group)
+}
+
+/// Whether the places have the same names, in the same order.
+pub(crate) fn has_same_places(wanted: &Scenario, other: &Scenario) -> bool
+    ensures { IsTrue result ↔ AgreeIn wanted.now other.now Places }
+{
+    if other.place_count() != wanted.place_count() {
+        return false;
+    }
+    for place in 0..wanted.place_count() {
+        if !has_same_place(wanted, other, place) {
+            return false;
+        }
+    }
+    true
+}
+
+/// Whether a place has the same name in both, where 0 is the first.
+fn has_same_place(wanted: &Scenario, other: &Scenario, place: usize) -> bool
+    requires here { place < length wanted.now.places }
+    requires there { place < length other.now.places }
+    ensures { IsTrue result ↔ (slice_index_or other.now.places place [] ≡ slice_index_or wanted.now.places place []) }
+{
+    other.place_name(place) == wanted.place_name(place)
 }
 
 /// Whether the links are the same.

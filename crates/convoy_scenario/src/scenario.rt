@@ -1,4 +1,4 @@
-ghost use Rattle.std.specs.Prelude.{◌≡◌, ◌<◌, ℕ, false, length, option_copied, IfOk, IsTrue};
+ghost use Rattle.std.specs.Prelude.{◌≡◌, ◌<◌, ℕ, false, [], length, slice_index_or, option_copied, IfOk, IsTrue};
 ghost use Rattle.std.specs.List.{list_any};
 ghost use Rattle.std.specs.Option.{option_map_or};
 ghost use Rattle.convoy_scenario.specs.Room.{HasRoom};
@@ -57,13 +57,14 @@ impl Multicast {
 
 /// A scenario that is well formed: its limits hold, its names are names and differ, and every group
 /// and message that it refers to is there (docs/FORMATS.md, "Scenario text"). Groups and messages go
-/// by number, from 0, in the order of the text.
+/// by number, from 0, in the order of the text, and places from 1, where they are those of senders.
 #[derive(Drop)]
 pub struct Scenario {
     time: Time,
     tick: Option<Duration>,
     delay: u16,
     groups: Vec<Name>,
+    places: Vec<Name>,
     links: Vec<Link>,
     multicasts: Vec<Multicast>,
     target_message: usize,
@@ -78,6 +79,7 @@ impl Model for Scenario {
       tick = s.tick;
       delay = s.delay;
       groups = s.groups.items;
+      places = s.places.items;
       links = s.links.items;
       multicasts = s.multicasts.items;
       target_message = s.target_message;
@@ -117,13 +119,14 @@ impl Scenario {
         let delay = delay_ticks(draft.delay);
         let target_message = message_place(&draft.target_message, &draft.multicasts);
         let target_group = place(&draft.target_group, &draft.groups);
-        let links = links_of(alloc, delay, &draft.groups, &draft.links)?;
+        let links = links_of(alloc, delay, &draft.groups, &draft.places, &draft.links)?;
         let DraftScenario {
             groups,
+            places,
             multicasts,
             ..
         } = draft;
-        let multicasts = multicasts_of(alloc, &groups, multicasts)?;
+        let multicasts = multicasts_of(alloc, &groups, &places, multicasts)?;
         if !has_room(&multicasts, target_message) {
             return Err(ScenarioFault::OverLimit(Limit::Until));
         }
@@ -132,6 +135,7 @@ impl Scenario {
             tick,
             delay,
             groups,
+            places,
             links,
             multicasts,
             target_message,
@@ -144,6 +148,7 @@ impl Scenario {
         ensures { IfOk result (λ copy. copy ≡ self.now) }
     {
         let groups = copy_names(*self.groups.allocator(), &self.groups)?;
+        let places = copy_names(*self.places.allocator(), &self.places)?;
         let links = Vec::from_slice(*self.links.allocator(), &self.links)?;
         let multicasts = copy_multicasts(*self.multicasts.allocator(), &self.multicasts)?;
         Ok(Scenario {
@@ -151,6 +156,7 @@ impl Scenario {
             tick: self.tick,
             delay: self.delay,
             groups,
+            places,
             links,
             multicasts,
             target_message: self.target_message,
@@ -247,15 +253,19 @@ impl Scenario {
         self.tick
     }
 
-    /// Whether time is real, or some message may wait, or some group's own stamps take time: then lines that tell the
-    /// scenario say how time goes (docs/FORMATS.md, "Certificate text").
+    /// Whether time is real, or some message may wait, or some group's own stamps take time, or clients are at named
+    /// places: then lines that tell the scenario say how time goes (docs/FORMATS.md, "Certificate text").
     pub fn is_timed(&self) -> bool
         ensures value { result ≡ is_timed self.now }
         ensures lawful { IsScenario self.now }
     {
         match self.time {
             Time::Real => true,
-            Time::Ticks => some_may_wait(&self.multicasts) || some_are_for_stamps(&self.links),
+            Time::Ticks => {
+                some_may_wait(&self.multicasts)
+                    || some_are_for_stamps(&self.links)
+                    || 0 < self.places.len()
+            }
         }
     }
 
@@ -283,6 +293,22 @@ impl Scenario {
         self.groups[group].as_str()
     }
 
+    /// How many places have a name.
+    pub fn place_count(&self) -> usize
+        ensures value { result ≡ length self.now.places }
+        ensures lawful { IsScenario self.now }
+    {
+        self.places.len()
+    }
+
+    /// The name of a place, where 0 is the first: a client there is `Sender::Client(1)`.
+    pub fn place_name(&self, place: usize) -> &str
+        requires { place < length self.now.places }
+        ensures { result.now ≡ slice_index_or self.now.places place [] }
+    {
+        self.places[place].as_str()
+    }
+
     /// How many links there are, but for those between two places whose range is 1 to D.
     pub fn link_count(&self) -> usize
         ensures value { result ≡ length self.now.links }
@@ -291,7 +317,7 @@ impl Scenario {
         self.links.len()
     }
 
-    /// The links, but for those between two places whose range is 1 to D, in ascending order: by sender, a client first, and
+    /// The links, but for those between two places whose range is 1 to D, in ascending order: by sender, clients first, and
     /// then by the group that they lead to.
     pub fn links(&self) -> &[Link]
         ensures value { result.now ≡ self.now.links }
@@ -321,7 +347,7 @@ impl Scenario {
         ensures { result ≡ own_stamps_take_time self.now sender to }
     {
         match sender {
-            Sender::Client => false,
+            Sender::Client(_) => false,
             Sender::Group(group) => group == to && self.stamp_takes_time(group, to),
         }
     }

@@ -1,8 +1,8 @@
 -- The forms of lines: what is read was written so, and what is written is read again.
-use Rattle.std.proofs.Common.{◌≡◌, ℕ, pos, ◌+◌, ◌<◌, ◌==◌, ◌&&◌, Bool, false, cond, leb, List, [], ◌∷◌, length, map, Option, Some, None, refl, ap, sym, subst, ◌∙◌, arith, inl, inr, codes, decimal}
+use Rattle.std.proofs.Common.{◌≡◌, ℕ, pos, ◌+◌, ◌<◌, ◌≤◌, ◌==◌, ◌&&◌, Bool, false, cond, leb, List, [], ◌∷◌, length, map, Option, Some, None, refl, ap, sym, subst, ◌∙◌, arith, inl, inr, codes, decimal}
 use Rattle.std.specs.List.{AllByRecursion}
 use Rattle.std.specs.Str.{is_utf8}
-use Rattle.std.proofs.lemmas.Bool.{cases_Bool, eqb-true}
+use Rattle.std.proofs.lemmas.Bool.{cases_Bool, eqb-true, leb-true}
 use Rattle.std.proofs.lemmas.List.{nil_from_length}
 use Rattle.std.proofs.lemmas.Option.{cond_some, same_Some}
 use Rattle.convoy_draft.specs.Checks.{leads_elsewhere}
@@ -11,7 +11,7 @@ use Rattle.convoy_lines.specs.Words.{next_word, number_of}
 use Rattle.convoy_lines.specs.Chains.{◌>>=◌}
 use Rattle.convoy_lines.specs.Labels.{words_after}
 use Rattle.convoy_scenario_lines.specs.declared.version.Version.{Version}
-use Rattle.convoy_scenario_lines.specs.LineForms.{name_of, named_sender, greatest_delay_number, groups_in, stamps_in, where_stamps_stay, link_in, issue_in, multicast_in, target_in}
+use Rattle.convoy_scenario_lines.specs.LineForms.{name_of, named_sender, greatest_delay_number, names_in, stamps_in, where_stamps_stay, link_in, issue_in, multicast_in, target_in}
 use Rattle.convoy_scenario_lines.specs.ScenarioLines.{issue_word, stamps_words}
 use Rattle.convoy_scenario_lines.proofs.Issues.{CanWait, issue_takes}
 use Rattle.convoy_scenario_lines.proofs.OwnStamps.{CanHaveStamps, stamps_take, stays}
@@ -61,12 +61,13 @@ pub record SaysLink (version : Version) (line : List ℕ) (link : DraftLink) : T
   pub can : CanHaveStamps version stamps
   pub home : (link.stamps && leads_elsewhere link) ≡ false
 
-pub groups_take : (line : List ℕ) (groups : List (List ℕ)) → groups_in line ≡ Some groups → AllByRecursion (λ name. 0 < length name) groups → line ≡ line_of (codes "groups") groups
-groups_take line groups e some =
-    let a = bind_some (words_after (codes "groups") line) (λ words. cond (leb 1 (length words)) (Some (map name_of words)) None) groups e in
-    let g = cond_some (leb 1 (length a.0)) (map name_of a.0) groups a.2 in
-    let same : a.0 ≡ groups = names_take a.0 (subst (AllByRecursion (λ name. 0 < length name)) (sym g.1) some) ∙ g.1 in
-    label_takes (codes "groups") line a.0 a.1 ∙ ap (line_of (codes "groups")) same
+-- a line of names has one at least
+pub names_line_takes : (label line : List ℕ) (names : List (List ℕ)) → names_in label line ≡ Some names → AllByRecursion (λ name. 0 < length name) names → (line ≡ line_of label names) × (1 ≤ length names)
+names_line_takes label line names e some =
+    let a = bind_some (words_after label line) (λ words. cond (leb 1 (length words)) (Some (map name_of words)) None) names e in
+    let g = cond_some (leb 1 (length a.0)) (map name_of a.0) names a.2 in
+    let same : a.0 ≡ names = names_take a.0 (subst (AllByRecursion (λ name. 0 < length name)) (sym g.1) some) ∙ g.1 in
+    (label_takes label line a.0 a.1 ∙ ap (line_of label) same, subst (λ (words : List (List ℕ)). 1 ≤ length words) same (leb-true 1 (length a.0) g.0))
 
 -- the link of these words, by those that are left
 abbrev link_at_end : Version → List ℕ → List ℕ → ℕ → List (List ℕ) → ℕ → Option DraftLink

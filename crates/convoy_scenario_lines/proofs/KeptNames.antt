@@ -74,8 +74,8 @@ kept_known groups to =
       | inr other ↦ some_unknown groups to to other ∙ sym other
     ]
 
-pub knows_kept : (groups : List (List ℕ)) (message : DraftMessage) → knows groups (kept_message groups message) ≡ knows groups message
-knows_kept groups message = ap (λ b. is_known_sender groups message.sender && b) (kept_known groups message.to)
+pub knows_kept : (groups places : List (List ℕ)) (message : DraftMessage) → knows groups places (kept_message groups message) ≡ knows groups places message
+knows_kept groups places message = ap (λ b. is_known_sender groups places message.sender && b) (kept_known groups message.to)
 
 -- ---- names that differ, among few groups, are few
 
@@ -103,13 +103,13 @@ differ_take groups to few known =
       | inr short ↦ ap all_differ (take_all 9 to short)
     ]
 
-pub differ_kept : (groups : List (List ℕ)) (message : DraftMessage) → length groups ≤ 8 → knows groups message ≡ true → all_differ (kept_destinations groups message.to) ≡ all_differ message.to
-differ_kept groups message few known =
+pub differ_kept : (groups places : List (List ℕ)) (message : DraftMessage) → length groups ≤ 8 → knows groups places message ≡ true → all_differ (kept_destinations groups message.to) ≡ all_differ message.to
+differ_kept groups places message few known =
     let to = (and_parts _ (all_among groups message.to) known).1 in
     ap all_differ (kept_first groups message.to to) ∙ differ_take groups message.to few to
 
-pub kept_same : (groups : List (List ℕ)) (message : DraftMessage) → length groups ≤ 8 → knows groups message ≡ true → all_differ message.to ≡ true → kept_message groups message ≡ message
-kept_same groups message few known differ =
+pub kept_same : (groups places : List (List ℕ)) (message : DraftMessage) → length groups ≤ 8 → knows groups places message ≡ true → all_differ message.to ≡ true → kept_message groups message ≡ message
+kept_same groups places message few known differ =
     let to = (and_parts _ (all_among groups message.to) known).1 in
     let most = few_differ groups message.to to differ in
     let same : kept_destinations groups message.to ≡ message.to = kept_first groups message.to to ∙ take_all 9 message.to (omega arith) in

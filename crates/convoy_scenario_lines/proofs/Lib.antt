@@ -11,3 +11,4 @@ pub mod Issues
 pub mod OwnStamps
 pub mod ScenarioTakes
 pub mod ScenarioAgain
+pub mod PlaceRows

@@ -19,9 +19,9 @@ placed delay before number (link ∷ links) e =
       | inr other ↦ let found : Some number ≡ None = rw other at e in absurd cc
     ]
 
-pub none_misplaced : (groups delay : ℕ) (before : Option Link) (number : ℕ) (links : List Link) → ascend_after before links ≡ true → All (IsLink groups delay) links → first_misplaced delay before number links ≡ None
-none_misplaced groups delay before number [] up are = refl
-none_misplaced groups delay before number (link ∷ links) up are =
+pub none_misplaced : (groups places delay : ℕ) (before : Option Link) (number : ℕ) (links : List Link) → ascend_after before links ≡ true → All (IsLink groups places delay) links → first_misplaced delay before number links ≡ None
+none_misplaced groups places delay before number [] up are = refl
+none_misplaced groups places delay before number (link ∷ links) up are =
     let p = and_parts (follows before link) (ascend_after (Some link) links) up in
-    let part : is_whole delay link ≡ false = not-true (is_whole delay link) (All-head (IsLink groups delay) link links are).partial in
-    rw (p.0, part) (none_misplaced groups delay (Some link) (number + 1) links p.1 (All-tail (IsLink groups delay) link links are))
+    let part : is_whole delay link ≡ false = not-true (is_whole delay link) (All-head (IsLink groups places delay) link links are).partial in
+    rw (p.0, part) (none_misplaced groups places delay (Some link) (number + 1) links p.1 (All-tail (IsLink groups places delay) link links are))

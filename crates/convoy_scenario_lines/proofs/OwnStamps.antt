@@ -6,7 +6,7 @@ use Rattle.std.proofs.lemmas.Bool.{and_parts, cases_Bool, eqb-true, false≢true
 use Rattle.std.proofs.lemmas.List.{nil_from_length}
 use Rattle.std.proofs.lemmas.Option.{cond_some, same_Some}
 use Rattle.std.proofs.lemmas.Slice.Eq.{bytes_eq-Decides}
-use Rattle.convoy_draft.specs.Checks.{is_named_alike, leads_elsewhere}
+use Rattle.convoy_draft.specs.Checks.{is_among, is_named_alike, leads_elsewhere}
 use Rattle.convoy_draft.specs.Draft.{DraftLink}
 use Rattle.convoy_scenario.specs.declared.sender.Sender.{Sender}
 use Rattle.convoy_scenario.specs.declared.sender.Sender.TheVariants.{Client, Group}
@@ -58,11 +58,13 @@ stays link found e =
           (ap (λ (l : DraftLink). l.stamps && leads_elsewhere l) (sym same) ∙ home, same)
     ]
 
--- one name has one number
-one_number : (groups : List (List ℕ)) (sender : Option (List ℕ)) (to : List ℕ) → is_named_alike sender (Some to) ≡ true → is_same_sender (sender_of groups sender) (Group (place to groups)) ≡ true
-one_number groups None to e = absurd (false≢true e)
-one_number groups (Some name) to e =
-    eq-eqb (place name groups) (place to groups) (ap (λ n. place n groups) ((bytes_eq-Decides name to).0 e))
+-- one name of a group has one number
+one_number : (groups places : List (List ℕ)) (sender : Option (List ℕ)) (to : List ℕ) → is_among to groups ≡ true → is_named_alike sender (Some to) ≡ true → is_same_sender (sender_of groups places sender) (Group (place to groups)) ≡ true
+one_number groups places None to among e = absurd (false≢true e)
+one_number groups places (Some name) to among e =
+    let same : name ≡ to = (bytes_eq-Decides name to).0 e in
+    let known : is_among name groups ≡ true = ap (λ n. is_among n groups) same ∙ among in
+    rw known (eq-eqb (place name groups) (place to groups) (ap (λ n. place n groups) same))
 
 keeps : (stamps alike same : Bool) → (alike ≡ true → same ≡ true) → (stamps && not alike) ≡ false → (stamps && same) ≡ stamps
 keeps false alike same h e = refl
@@ -70,10 +72,10 @@ keeps true true same h e = h refl
 keeps true false same h e = absurd (true≢false e)
 
 -- such a link is for stamps, too, as a link with numbers
-pub kept_stamps : (groups : List (List ℕ)) (link : DraftLink) → (link.stamps && leads_elsewhere link) ≡ false → (link_of groups link).stamps ≡ link.stamps
-kept_stamps groups link stay =
-    keeps link.stamps (is_named_alike link.sender (Some link.to)) (is_same_sender (sender_of groups link.sender) (Group (place link.to groups)))
-    (one_number groups link.sender link.to) stay
+pub kept_stamps : (groups places : List (List ℕ)) (link : DraftLink) → is_among link.to groups ≡ true → (link.stamps && leads_elsewhere link) ≡ false → (link_of groups places link).stamps ≡ link.stamps
+kept_stamps groups places link among stay =
+    keeps link.stamps (is_named_alike link.sender (Some link.to)) (is_same_sender (sender_of groups places link.sender) (Group (place link.to groups)))
+    (one_number groups places link.sender link.to among) stay
 
 -- ---- what is written is read again
 
@@ -91,7 +93,7 @@ stamps_are_words false = tt
 pub home_again : (plan : Scenario) (sender : Sender) (to : ℕ) (stamps : Bool) → (not stamps || is_same_sender sender (Group to)) ≡ true
     → (stamps && not (is_named_alike (sender_name plan sender) (Some (group_name_at plan to)))) ≡ false
 home_again plan sender to false home = refl
-home_again plan Client to true home = absurd (false≢true home)
+home_again plan (Client p) to true home = absurd (false≢true home)
 home_again plan (Group g) to true home =
     let same : group_name_at plan g ≡ group_name_at plan to = ap (group_name_at plan) (eqb-true g to home) in
     ap not ((bytes_eq-Decides (group_name_at plan g) (group_name_at plan to)).1 same)

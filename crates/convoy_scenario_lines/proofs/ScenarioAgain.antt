@@ -1,9 +1,10 @@
 -- The lines of a scenario are read again.
-use Rattle.std.proofs.Common.{◌≡◌, ℕ, zero, suc, ◌+◌, ◌<◌, ◌≤◌, ◌==◌, ◌&&◌, ◌||◌, not, true, false, leb, le-leb, List, [], ◌∷◌, ◌++◌, length, get_or, map, filter, All, Option, Some, None, Result, Ok, append_assoc, refl, ap, sym, ◌∙◌, arith, inl, inr, codes, decimal}
+use Rattle.std.proofs.Common.{◌≡◌, ℕ, zero, suc, ◌+◌, ◌-◌, ◌<◌, ◌≤◌, ◌==◌, ◌&&◌, ◌||◌, not, true, false, leb, ltb, le-leb, List, [], ◌∷◌, ◌++◌, length, get_or, map, filter, All, Option, Some, None, Result, Ok, append_assoc, refl, ap, sym, ◌∙◌, arith, inl, inr, codes, decimal}
 use Rattle.std.specs.List.{list_all, list_any, AllByRecursion}
 use Rattle.std.specs.Str.{bytes_eq}
-use Rattle.std.proofs.lemmas.Bool.{and_parts, and_from, or_cases, or_from, or_parts, or_right, eqb-true, ne_eqb, leb-true, not-true, false≢true}
+use Rattle.std.proofs.lemmas.Bool.{and_parts, and_from, cases_Bool, or_cases, or_from, or_parts, or_right, eqb-true, ne_eqb, leb-true, not-true, false≢true}
 use Rattle.std.proofs.lemmas.Bool.Decides.{nat_tests}
+use Rattle.std.proofs.lemmas.List.{nil_from_length}
 use Rattle.std.proofs.lemmas.List.Elements.{All-head, All-tail, All-cons, All-get_or}
 use Rattle.std.proofs.lemmas.Slice.Eq.{slice_eq-Decides, bytes_eq-Decides}
 use Rattle.std.proofs.lemmas.Str.{IsUtf8-from_ascii, is_utf8-from_IsUtf8}
@@ -19,7 +20,7 @@ use Rattle.convoy_draft.specs.declared.time.Time.TheVariants.{Ticks, Real}
 use Rattle.convoy_scenario.specs.declared.sender.Sender.{Sender}
 use Rattle.convoy_scenario.specs.declared.sender.Sender.TheVariants.{Client, Group}
 use Rattle.convoy_scenario.specs.Scenario as plans
-use Rattle.convoy_scenario.specs.Scenario.{Scenario, Message, message_at, may_wait, has_own_stamps, is_timed, group_name_at, no_message}
+use Rattle.convoy_scenario.specs.Scenario.{Scenario, Message, message_at, may_wait, has_own_stamps, is_timed, group_name_at, place_name_at, no_message}
 use Rattle.convoy_scenario.specs.WellFormed.{IsSender, IsLink, IsMulticast, IsScenario}
 use Rattle.convoy_draft.specs.Names.{is_letter, is_digit, is_name_byte, is_name, is_group_name, client_word}
 use Rattle.convoy_draft.specs.Limits.{is_tick}
@@ -28,13 +29,14 @@ use Rattle.convoy_scenario_lines.specs.ScenarioLineLaws.{CanSayTime, CanSay}
 use Rattle.convoy_draft.specs.Durations.{count_of, unit_of, unit_word}
 use Rattle.convoy_draft.specs.declared.duration.TheConstants.{LONGEST_DURATION, MOST_UNITS}
 use Rattle.convoy_scenario.specs.Numbering.{delay_of_draft, message_of, numbers_of, scenario_of, scenario_of_draft}
-use Rattle.convoy_scenario_lines.specs.ScenarioLines.{time_lines, issue_word, tick_line, tick_lines, lines_from_delay, delay_line, groups_line, link_line, stamps_words, multicast_line, target_line, scenario_lines}
+use Rattle.convoy_scenario_lines.specs.ScenarioLines.{time_lines, issue_word, tick_line, tick_lines, lines_from_delay, delay_line, groups_line, places_line, places_lines, link_line, stamps_words, multicast_line, target_line, scenario_lines}
 use Rattle.convoy_lines.specs.Labels.{begins_with, number_in}
-use Rattle.convoy_scenario_lines.specs.LineForms.{name_of, named_sender, greatest_delay_number, groups_in, link_in, multicast_in, target_in}
+use Rattle.convoy_scenario_lines.specs.LineForms.{name_of, named_sender, greatest_delay_number, names_in, groups_in, places_in, link_in, multicast_in, target_in}
+use Rattle.convoy_lines.specs.Texts.{line_of}
 use Rattle.convoy_lines.specs.Words.{Lacks, words_of}
 use Rattle.convoy_lines.specs.Results.{◌>>=◌}
 use Rattle.convoy_lines.specs.Places.{Place, upcoming}
-use Rattle.convoy_scenario_lines.specs.LineReading.{form_at, time_at, is_tick_due, tick_at, is_link_due, links_in, links_at, first_misplaced_link, is_multicast_due, messages_in, messages_at, told, is_ordered, first_unordered, where_ordered, scenario_at}
+use Rattle.convoy_scenario_lines.specs.LineReading.{form_at, time_at, is_tick_due, tick_at, is_places_due, places_at, is_link_due, links_in, links_at, first_misplaced_link, is_multicast_due, messages_in, messages_at, told, is_ordered, first_unordered, where_ordered, scenario_at}
 use Rattle.convoy_scenario.specs.Naming.{draft_for, draft_link, draft_message, sender_name, sender_word}
 use Rattle.convoy_scenario.proofs.DraftAgain.{group_known, links_again, made_again}
 use Rattle.convoy_scenario.proofs.FewLinks.{few_links}
@@ -43,7 +45,7 @@ use Rattle.convoy_scenario_lines.proofs.OwnStamps.{CanHaveStamps, any_stamps, ea
 use Rattle.convoy_scenario_lines.proofs.LinkOrder.{none_misplaced}
 use Rattle.convoy_scenario_lines.proofs.Links.{no_more}
 use Rattle.convoy_scenario_lines.proofs.TickLines.{tick_words, tick_again}
-use Rattle.convoy_scenario_lines.proofs.ScenarioTakes.{SaysTime, of_draft, named, count_lines, count_all, lines_before, after_time, after_tick, after_delay, after_groups, after_links, after_messages, after_target}
+use Rattle.convoy_scenario_lines.proofs.ScenarioTakes.{SaysTime, CanNamePlaces, one_line, of_draft, named, count_lines, count_all, lines_before, after_time, after_tick, after_delay, after_groups, after_places, after_links, after_messages, after_target}
 use Rattle.convoy_lines.specs.LineLaws.{IsWord}
 use Rattle.convoy_lines.proofs.LabelLemmas.{label_again, number_line_again}
 use Rattle.convoy_lines.proofs.Spelling.{AreWords, AreLines, lines_append, number_again, decimal_word, words_again, line_lacks, known_word}
@@ -129,12 +131,14 @@ long Real tick e =
     let q = and_parts (leb 1 tick) (leb tick LONGEST_DURATION) p.0 in
     record { real = refl; some = leb-true 1 tick q.0; short = leb-true tick LONGEST_DURATION q.1; few = leb-true (count_of tick) MOST_UNITS p.1 }
 
--- a scenario of which nothing says how time goes is in whole ticks, no message may wait, and no link is for stamps, too
-untimed : (plan : Scenario) (time : Time) → plan.time ≡ time → is_timed plan ≡ false → (time ≡ Ticks) × (list_any may_wait plan.multicasts ≡ false) × (has_own_stamps plan ≡ false)
+-- a scenario of which nothing says how time goes is in whole ticks, no message may wait, no link is for stamps, too, and no place has a name
+untimed : (plan : Scenario) (time : Time) → plan.time ≡ time → is_timed plan ≡ false → (time ≡ Ticks) × (list_any may_wait plan.multicasts ≡ false) × (has_own_stamps plan ≡ false) × (plan.places ≡ [])
 untimed plan Ticks is e =
-    let none : (list_any may_wait plan.multicasts || has_own_stamps plan) ≡ false = rw is at e in
-    let parts = or_parts (list_any may_wait plan.multicasts) (has_own_stamps plan) none in
-    (refl, parts.0, parts.1)
+    let none : (list_any may_wait plan.multicasts || has_own_stamps plan || ltb 0 (length plan.places)) ≡ false = rw is at e in
+    let whole = or_parts (list_any may_wait plan.multicasts || has_own_stamps plan) (ltb 0 (length plan.places)) none in
+    let parts = or_parts (list_any may_wait plan.multicasts) (has_own_stamps plan) whole.0 in
+    let placeless : length plan.places ≡ 0 = grind (arith, nat_tests, whole.1) in
+    (refl, parts.0, parts.1, nil_from_length plan.places placeless)
 untimed plan Real is e = let no : true ≡ false = rw is at e in absurd cc
 
 says_time : (version : Version) (plan : Scenario) → CanSayTime version plan → SaysTime version plan.time
@@ -164,49 +168,65 @@ can_have_stamps One plan can = each_without plan.links (untimed plan plan.time r
 can_have_stamps Two plan can = each_without plan.links (untimed plan plan.time refl can).2
 can_have_stamps Three plan can = any_stamps plan.links
 
+can_name_places : (version : Version) (plan : Scenario) → CanSayTime version plan → CanNamePlaces version plan.places
+can_name_places One plan can = (untimed plan plan.time refl can).3
+can_name_places Two plan can = (untimed plan plan.time refl can).3
+can_name_places Three plan can = tt
+
 delay_again : (plan : Scenario) → IsScenario plan → number_in (codes "delay") (delay_line plan) ≡ Some plan.delay
 delay_again plan s = number_line_again (codes "delay") plan.delay (known_word (codes "delay") refl) (omega (arith, s.delay_high))
 
-groups_again : (plan : Scenario) → IsScenario plan → groups_in (groups_line plan) ≡ Some plan.groups
-groups_again plan s =
-    let names = names_words plan.groups s.group_names in
-    rw (label_again (codes "groups") plan.groups (known_word (codes "groups") refl) names.0, le-leb 1 (length plan.groups) s.groups_low, names.1) refl
+pub names_again : (label : List ℕ) (names : List (List ℕ)) → IsWord label → All (λ name. is_group_name name ≡ true) names → 1 ≤ length names → names_in label (line_of label names) ≡ Some names
+names_again label names is all some =
+    let words = names_words names all in
+    rw (label_again label names is words.0, le-leb 1 (length names) some, words.1) refl
 
-sender_is : (plan : Scenario) (s : Sender) → All (λ name. is_group_name name ≡ true) plan.groups → IsSender (length plan.groups) s → IsWord (sender_word plan s) × (named_sender (sender_word plan s) ≡ sender_name plan s)
-sender_is plan Client all is = (client_is, refl)
-sender_is plan (Group g) all is =
-    let n = group_name (group_name_at plan g) (All-get_or (λ name. is_group_name name ≡ true) plan.groups g [] is all) in
+groups_again : (plan : Scenario) → IsScenario plan → groups_in (groups_line plan) ≡ Some plan.groups
+groups_again plan s = names_again (codes "groups") plan.groups (known_word (codes "groups") refl) s.group_names s.groups_low
+
+sender_is : (plan : Scenario) (s : Sender) → IsScenario plan → IsSender (length plan.groups) (length plan.places) s → IsWord (sender_word plan s) × (named_sender (sender_word plan s) ≡ sender_name plan s)
+sender_is plan (Client p) s is =
+    elim (cases_Bool (p == 0)) [
+      | inl none ↦ rw none (client_is, refl)
+      | inr some ↦
+          let above : 0 < p = grind (arith, nat_tests, some) in
+          let within : p - 1 < length plan.places = omega (arith, is) in
+          let n = group_name (place_name_at plan p) (All-get_or (λ name. is_group_name name ≡ true) plan.places (p - 1) [] within s.place_names) in
+          rw some (name_word (place_name_at plan p) n.0, rw (n.1, name_again (place_name_at plan p) n.0) refl)
+    ]
+sender_is plan (Group g) s is =
+    let n = group_name (group_name_at plan g) (All-get_or (λ name. is_group_name name ≡ true) plan.groups g [] is s.group_names) in
     (name_word (group_name_at plan g) n.0, rw (n.1, name_again (group_name_at plan g) n.0) refl)
 
-link_words : (plan : Scenario) (l : plans.Link) → IsScenario plan → IsLink (length plan.groups) plan.delay l → AreWords (sender_word plan l.sender ∷ group_name_at plan l.to ∷ decimal l.least ∷ decimal l.most ∷ stamps_words l.stamps)
+link_words : (plan : Scenario) (l : plans.Link) → IsScenario plan → IsLink (length plan.groups) (length plan.places) plan.delay l → AreWords (sender_word plan l.sender ∷ group_name_at plan l.to ∷ decimal l.least ∷ decimal l.most ∷ stamps_words l.stamps)
 link_words plan l s is =
     let to = group_name (group_name_at plan l.to) (All-get_or (λ name. is_group_name name ≡ true) plan.groups l.to [] is.to s.group_names) in
-    let sender = sender_is plan l.sender s.group_names is.sender in
+    let sender = sender_is plan l.sender s is.sender in
     (sender.0, (name_word (group_name_at plan l.to) to.0, (decimal_word l.least (omega (arith, is.ordered, is.high, s.delay_high)), (decimal_word l.most (omega (arith, is.high, s.delay_high)), stamps_are_words l.stamps))))
 
-link_line_again : (version : Version) (plan : Scenario) (l : plans.Link) → IsScenario plan → IsLink (length plan.groups) plan.delay l → CanHaveStamps version l.stamps → link_in version (link_line plan l) ≡ Some (draft_link plan l)
+link_line_again : (version : Version) (plan : Scenario) (l : plans.Link) → IsScenario plan → IsLink (length plan.groups) (length plan.places) plan.delay l → CanHaveStamps version l.stamps → link_in version (link_line plan l) ≡ Some (draft_link plan l)
 link_line_again version plan l s is can =
     let to = group_name (group_name_at plan l.to) (All-get_or (λ name. is_group_name name ≡ true) plan.groups l.to [] is.to s.group_names) in
-    let sender = sender_is plan l.sender s.group_names is.sender in
+    let sender = sender_is plan l.sender s is.sender in
     let words = label_again (codes "link") (sender_word plan l.sender ∷ group_name_at plan l.to ∷ decimal l.least ∷ decimal l.most ∷ stamps_words l.stamps) (known_word (codes "link") refl) (link_words plan l s is) in
     rw (words, number_again greatest_delay_number l.least (omega arith) (omega (arith, is.ordered, is.high, s.delay_high)), number_again greatest_delay_number l.most (omega arith) (omega (arith, is.high, s.delay_high)), stamps_again version l.stamps can, sender.1, name_again (group_name_at plan l.to) to.0, home_again plan l.sender l.to l.stamps is.stamps) refl
 
 -- the words of a line `multicast`
-message_words : (plan : Scenario) (m : Message) → IsScenario plan → IsMulticast (length plan.groups) m → AreWords (m.name ∷ sender_word plan m.sender ∷ issue_word m.at m.longest_wait ∷ map (group_name_at plan) m.destinations)
+message_words : (plan : Scenario) (m : Message) → IsScenario plan → IsMulticast (length plan.groups) (length plan.places) m → AreWords (m.name ∷ sender_word plan m.sender ∷ issue_word m.at m.longest_wait ∷ map (group_name_at plan) m.destinations)
 message_words plan m s is =
-    let sender = sender_is plan m.sender s.group_names is.sender in
+    let sender = sender_is plan m.sender s is.sender in
     let to = names_words (map (group_name_at plan) m.destinations) (at_numbers plan.groups m.destinations s.group_names is.known) in
     (name_word m.name is.name, (sender.0, (issue_is_word m.at m.longest_wait (omega (arith, is.at, is.wait)), to.0)))
 
-pub message_line_again : (version : Version) (plan : Scenario) (m : Message) → IsScenario plan → IsMulticast (length plan.groups) m → CanWait version m.longest_wait → multicast_in version (multicast_line plan m) ≡ Some (draft_message plan m)
+pub message_line_again : (version : Version) (plan : Scenario) (m : Message) → IsScenario plan → IsMulticast (length plan.groups) (length plan.places) m → CanWait version m.longest_wait → multicast_in version (multicast_line plan m) ≡ Some (draft_message plan m)
 message_line_again version plan m s is can =
-    let sender = sender_is plan m.sender s.group_names is.sender in
+    let sender = sender_is plan m.sender s is.sender in
     let to = names_words (map (group_name_at plan) m.destinations) (at_numbers plan.groups m.destinations s.group_names is.known) in
     let words = label_again (codes "multicast") (m.name ∷ sender_word plan m.sender ∷ issue_word m.at m.longest_wait ∷ map (group_name_at plan) m.destinations) (known_word (codes "multicast") refl) (message_words plan m s is) in
     rw (words, known_again version m.at m.longest_wait (omega (arith, is.at, is.wait)) can, name_again m.name is.name, sender.1, to.1) refl
 
 target_name_is : (plan : Scenario) → IsScenario plan → is_name (message_at plan plan.target_message).name ≡ true
-target_name_is plan s = (All-get_or (IsMulticast (length plan.groups)) plan.multicasts plan.target_message no_message s.target s.messages).name
+target_name_is plan s = (All-get_or (IsMulticast (length plan.groups) (length plan.places)) plan.multicasts plan.target_message no_message s.target s.messages).name
 
 target_line_again : (plan : Scenario) → IsScenario plan → plan.target_group < length plan.groups → target_in (target_line plan) ≡ Some ((message_at plan plan.target_message).name, group_name_at plan plan.target_group)
 target_line_again plan s within =
@@ -220,7 +240,7 @@ target_line_again plan s within =
 numbered_again : (plan : Scenario) → IsScenario plan → scenario_of (draft_for plan) ≡ plan
 numbered_again plan s = (of_draft (draft_for plan) plan (ap told (made_again plan s))).1
 
-ordered_again : (plan : Scenario) (m : Message) → message_of plan.groups (draft_message plan m) ≡ m → is_ordered plan.groups (draft_message plan m) ≡ true
+ordered_again : (plan : Scenario) (m : Message) → message_of plan.groups plan.places (draft_message plan m) ≡ m → is_ordered plan.groups (draft_message plan m) ≡ true
 ordered_again plan m again =
     let to : List (List ℕ) = map (group_name_at plan) m.destinations in
     let numbers : numbers_of plan.groups to ≡ m.destinations = ap (λ (n : Message). n.destinations) again in
@@ -228,14 +248,14 @@ ordered_again plan m again =
     sym (named plan.groups to) ∙ ap (map (λ g. get_or plan.groups g [])) numbers in
     (slice_eq-Decides bytes_eq-Decides to (filter (λ group. is_among group to) plan.groups) _ refl).1 (sym listed)
 
-none_unordered : (plan : Scenario) (number : ℕ) (ms : List Message) → map (message_of plan.groups) (map (draft_message plan) ms) ≡ ms → first_unordered plan.groups number (map (draft_message plan) ms) ≡ None
+none_unordered : (plan : Scenario) (number : ℕ) (ms : List Message) → map (message_of plan.groups plan.places) (map (draft_message plan) ms) ≡ ms → first_unordered plan.groups number (map (draft_message plan) ms) ≡ None
 none_unordered plan number [] again = refl
 none_unordered plan number (m ∷ ms) again =
-    let first : message_of plan.groups (draft_message plan m) ≡ m = cc in
-    let rest : map (message_of plan.groups) (map (draft_message plan) ms) ≡ ms = cc in
+    let first : message_of plan.groups plan.places (draft_message plan m) ≡ m = cc in
+    let rest : map (message_of plan.groups plan.places) (map (draft_message plan) ms) ≡ ms = cc in
     rw (ordered_again plan m first) (none_unordered plan (number + 1) ms rest)
 
-begins : (plan : Scenario) (m : Message) → IsScenario plan → IsMulticast (length plan.groups) m → begins_with (codes "multicast") (words_of (multicast_line plan m)) ≡ true
+begins : (plan : Scenario) (m : Message) → IsScenario plan → IsMulticast (length plan.groups) (length plan.places) m → begins_with (codes "multicast") (words_of (multicast_line plan m)) ≡ true
 begins plan m s is =
     ap (begins_with (codes "multicast")) (words_again (codes "multicast") (m.name ∷ sender_word plan m.sender ∷ issue_word m.at m.longest_wait ∷ map (group_name_at plan) m.destinations) refl (message_words plan m s is))
 
@@ -247,26 +267,56 @@ not_due plan s within n some =
     or_from (n == 0) (begins_with (codes "multicast") (words_of (target_line plan))) (ne_eqb n 0 (λ e. omega arith)) (ap (begins_with (codes "multicast")) words)
 
 -- a line `multicast` is no line `link`
-begins_otherwise : (plan : Scenario) (m : Message) → IsScenario plan → IsMulticast (length plan.groups) m → begins_with (codes "link") (words_of (multicast_line plan m)) ≡ false
+begins_otherwise : (plan : Scenario) (m : Message) → IsScenario plan → IsMulticast (length plan.groups) (length plan.places) m → begins_with (codes "link") (words_of (multicast_line plan m)) ≡ false
 begins_otherwise plan m s is =
     ap (begins_with (codes "link")) (words_again (codes "multicast") (m.name ∷ sender_word plan m.sender ∷ issue_word m.at m.longest_wait ∷ map (group_name_at plan) m.destinations) refl (message_words plan m s is))
 
-no_link : (plan : Scenario) (m : Message) → IsScenario plan → IsMulticast (length plan.groups) m → (version : Version) → is_link_due version (multicast_line plan m) ≡ false
+no_link : (plan : Scenario) (m : Message) → IsScenario plan → IsMulticast (length plan.groups) (length plan.places) m → (version : Version) → is_link_due version (multicast_line plan m) ≡ false
 no_link plan m s is One = refl
 no_link plan m s is Two = begins_otherwise plan m s is
 no_link plan m s is Three = begins_otherwise plan m s is
 
 -- the first line after those of the links
-none_due : (plan : Scenario) (ms : List Message) (t : List ℕ) (more : List (List ℕ)) (rest : List ℕ) (number : ℕ) (version : Version) → IsScenario plan → All (IsMulticast (length plan.groups)) ms → 1 ≤ length ms
+none_due : (plan : Scenario) (ms : List Message) (t : List ℕ) (more : List (List ℕ)) (rest : List ℕ) (number : ℕ) (version : Version) → IsScenario plan → All (IsMulticast (length plan.groups) (length plan.places)) ms → 1 ≤ length ms
     → is_link_due version (upcoming (record { ended = map (multicast_line plan) ms ++ t ∷ more; rest = rest; number = number })) ≡ false
 none_due plan [] t more rest number version s are some = absurd (omega arith)
-none_due plan (m ∷ ms) t more rest number version s are some = no_link plan m s (All-head (IsMulticast (length plan.groups)) m ms are) version
+none_due plan (m ∷ ms) t more rest number version s are some = no_link plan m s (All-head (IsMulticast (length plan.groups) (length plan.places)) m ms are) version
 
-link_begins : (plan : Scenario) (l : plans.Link) → IsScenario plan → IsLink (length plan.groups) plan.delay l → begins_with (codes "link") (words_of (link_line plan l)) ≡ true
+-- the line after those of the places
+no_places : (plan : Scenario) (ls : List plans.Link) (ms : List Message) (t : List ℕ) (more : List (List ℕ)) (rest : List ℕ) (number : ℕ) (version : Version) → IsScenario plan
+    → All (IsLink (length plan.groups) (length plan.places) plan.delay) ls → All (IsMulticast (length plan.groups) (length plan.places)) ms → 1 ≤ length ms
+    → is_places_due version (upcoming (record { ended = map (link_line plan) ls ++ (map (multicast_line plan) ms ++ t ∷ more); rest = rest; number = number })) ≡ false
+no_places plan ls ms t more rest number One s linked are some = refl
+no_places plan ls ms t more rest number Two s linked are some = refl
+no_places plan (l ∷ ls) ms t more rest number Three s linked are some =
+    let words = link_words plan l s (All-head (IsLink (length plan.groups) (length plan.places) plan.delay) l ls linked) in
+    ap (begins_with (codes "places")) (words_again (codes "link") (sender_word plan l.sender ∷ group_name_at plan l.to ∷ decimal l.least ∷ decimal l.most ∷ stamps_words l.stamps) refl words)
+no_places plan [] [] t more rest number Three s linked are some = absurd (omega arith)
+no_places plan [] (m ∷ ms) t more rest number Three s linked are some =
+    let words = message_words plan m s (All-head (IsMulticast (length plan.groups) (length plan.places)) m ms are) in
+    ap (begins_with (codes "places")) (words_again (codes "multicast") (m.name ∷ sender_word plan m.sender ∷ issue_word m.at m.longest_wait ∷ map (group_name_at plan) m.destinations) refl words)
+
+-- the line of the places, if there is one
+places_again : (version : Version) (places : List (List ℕ)) (number : ℕ) (rest : List ℕ) (more : List (List ℕ)) → All (λ name. is_group_name name ≡ true) places → CanNamePlaces version places
+    → is_places_due version (upcoming (record { ended = more; rest = rest; number = number })) ≡ false
+    → places_at version (record { ended = places_lines places ++ more; rest = rest; number = number }) ≡ Ok (places, record { ended = more; rest = rest; number = number + length (places_lines places) })
+places_again version [] number rest more all can other =
+    let z : number + 0 ≡ number = omega arith in
+    rw (other, z) refl
+places_again One (name ∷ names) number rest more all can other = absurd cc
+places_again Two (name ∷ names) number rest more all can other = absurd cc
+places_again Three (name ∷ names) number rest more all can other =
+    let places : List (List ℕ) = name ∷ names in
+    let some : 1 ≤ length places = omega arith in
+    let read : places_in (places_line places) ≡ Some places = names_again (codes "places") places (known_word (codes "places") refl) all some in
+    let lines : places_at Three (record { ended = places_line places ∷ more; rest = rest; number = number }) ≡ Ok (places, record { ended = more; rest = rest; number = number + 1 }) = rw read refl in
+    rw (one_line places some) lines
+
+link_begins : (plan : Scenario) (l : plans.Link) → IsScenario plan → IsLink (length plan.groups) (length plan.places) plan.delay l → begins_with (codes "link") (words_of (link_line plan l)) ≡ true
 link_begins plan l s is =
     ap (begins_with (codes "link")) (words_again (codes "link") (sender_word plan l.sender ∷ group_name_at plan l.to ∷ decimal l.least ∷ decimal l.most ∷ stamps_words l.stamps) refl (link_words plan l s is))
 
-lines_of_links : (version : Version) → ((line : List ℕ) → is_link_due version line ≡ begins_with (codes "link") (words_of line)) → (plan : Scenario) (ls : List plans.Link) (lines : List (List ℕ)) (rest : List ℕ) (count number : ℕ) → IsScenario plan → All (IsLink (length plan.groups) plan.delay) ls → AllByRecursion (λ l. CanHaveStamps version l.stamps) ls
+lines_of_links : (version : Version) → ((line : List ℕ) → is_link_due version line ≡ begins_with (codes "link") (words_of line)) → (plan : Scenario) (ls : List plans.Link) (lines : List (List ℕ)) (rest : List ℕ) (count number : ℕ) → IsScenario plan → All (IsLink (length plan.groups) (length plan.places) plan.delay) ls → AllByRecursion (λ l. CanHaveStamps version l.stamps) ls
     → ((n : ℕ) → is_link_due version (upcoming (record { ended = lines; rest = rest; number = n })) ≡ false) → count + length ls ≤ MOST_LINKS
     → links_in version count number rest (map (link_line plan) ls ++ lines) ≡ Ok (map (draft_link plan) ls, record { ended = lines; rest = rest; number = number + length ls })
 unfolding links_in
@@ -274,10 +324,10 @@ lines_of_links version has plan [] lines rest count number s are can other few =
     let e : number + 0 ≡ number = omega arith in
     rw e (no_more version count (record { ended = lines; rest = rest; number = number }) (other number))
 lines_of_links version has plan (l ∷ ls) lines rest count number s are can other few =
-    let is = All-head (IsLink (length plan.groups) plan.delay) l ls are in
+    let is = All-head (IsLink (length plan.groups) (length plan.places) plan.delay) l ls are in
     let e : number + suc (length ls) ≡ (number + 1) + length ls = omega arith in
     let below : (count == MOST_LINKS) ≡ false = ne_eqb count MOST_LINKS (λ e. omega arith) in
-    rw (has (link_line plan l) ∙ link_begins plan l s is, link_line_again version plan l s is can.0, below, lines_of_links version has plan ls lines rest (count + 1) (number + 1) s (All-tail (IsLink (length plan.groups) plan.delay) l ls are) can.1 other (omega arith), e) refl
+    rw (has (link_line plan l) ∙ link_begins plan l s is, link_line_again version plan l s is can.0, below, lines_of_links version has plan ls lines rest (count + 1) (number + 1) s (All-tail (IsLink (length plan.groups) (length plan.places) plan.delay) l ls are) can.1 other (omega arith), e) refl
 
 pub links_read : (version : Version) (plan : Scenario) (t : List ℕ) (more : List (List ℕ)) (rest : List ℕ) (number : ℕ) → IsScenario plan → CanSay version plan
     → links_in version 0 number rest (map (link_line plan) plan.links ++ (map (multicast_line plan) plan.multicasts ++ t ∷ more))
@@ -297,9 +347,9 @@ links_read Three plan t more rest number s said =
 none_astray : (plan : Scenario) (number : ℕ) → IsScenario plan → first_misplaced_link number (draft_for plan) ≡ None
 none_astray plan number s =
     let delay : delay_of_draft (draft_for plan) ≡ plan.delay = ap (λ (p : Scenario). p.delay) (numbered_again plan s) in
-    rw (delay, links_again plan plan.links s s.links) (none_misplaced (length plan.groups) plan.delay None number plan.links s.ascending s.links)
+    rw (delay, links_again plan plan.links s s.links) (none_misplaced (length plan.groups) (length plan.places) plan.delay None number plan.links s.ascending s.links)
 
-messages_again : (version : Version) (plan : Scenario) (ms : List Message) (t : List ℕ) (more : List (List ℕ)) (rest : List ℕ) (count number : ℕ) → IsScenario plan → All (IsMulticast (length plan.groups)) ms → AllByRecursion (λ m. CanWait version m.longest_wait) ms
+messages_again : (version : Version) (plan : Scenario) (ms : List Message) (t : List ℕ) (more : List (List ℕ)) (rest : List ℕ) (count number : ℕ) → IsScenario plan → All (IsMulticast (length plan.groups) (length plan.places)) ms → AllByRecursion (λ m. CanWait version m.longest_wait) ms
     → ((n : ℕ) → 0 < n → is_multicast_due n t ≡ false) → count + length ms ≤ MOST_MULTICASTS → 0 < count + length ms
     → messages_in version count number rest (map (multicast_line plan) ms ++ t ∷ more) ≡ Ok (map (draft_message plan) ms, record { ended = t ∷ more; rest = rest; number = number + length ms })
 unfolding messages_in
@@ -307,11 +357,11 @@ messages_again version plan [] t more rest count number s are can other few some
     let e : number + 0 ≡ number = omega arith in
     rw (other count (omega arith), e) refl
 messages_again version plan (m ∷ ms) t more rest count number s are can other few some =
-    let is = All-head (IsMulticast (length plan.groups)) m ms are in
+    let is = All-head (IsMulticast (length plan.groups) (length plan.places)) m ms are in
     let due : is_multicast_due count (multicast_line plan m) ≡ true = or_right (count == 0) _ (begins plan m s is) in
     let below : (count == MOST_MULTICASTS) ≡ false = ne_eqb count MOST_MULTICASTS (λ e. omega arith) in
     let e : number + suc (length ms) ≡ (number + 1) + length ms = omega arith in
-    rw (due, message_line_again version plan m s is can.0, below, messages_again version plan ms t more rest (count + 1) (number + 1) s (All-tail (IsMulticast (length plan.groups)) m ms are) can.1 other (omega arith) (omega arith), e) refl
+    rw (due, message_line_again version plan m s is can.0, below, messages_again version plan ms t more rest (count + 1) (number + 1) s (All-tail (IsMulticast (length plan.groups) (length plan.places)) m ms are) can.1 other (omega arith) (omega arith), e) refl
 
 then_ok : {A B : Type 0} (r : Result A LineFault) (f : A → Result B LineFault) (x : A) (y : Result B LineFault) → r ≡ Ok x → f x ≡ y → (r >>= f) ≡ y
 then_ok r f x y e g = ap (λ z. z >>= f) e ∙ g
@@ -364,16 +414,19 @@ scenario_again version plan number rest more s said =
     let many = length plan.links in
     let lines : List (List ℕ) = map (multicast_line plan) plan.multicasts ++ target_line plan ∷ more in
     let linked : List (List ℕ) = map (link_line plan) plan.links ++ lines in
+    let placed : List (List ℕ) = places_lines plan.places ++ linked in
+    let named = length (places_lines plan.places) in
     let second = number + length (time_lines version plan.time) in
     let first = second + length (tick_lines plan.tick) in
     let start : Place = record { ended = scenario_lines version plan ++ more; rest = rest; number = number } in
-    let q0 : Place = record { ended = tick_lines plan.tick ++ delay_line plan ∷ groups_line plan ∷ linked; rest = rest; number = second } in
-    let p0 : Place = record { ended = delay_line plan ∷ groups_line plan ∷ linked; rest = rest; number = first } in
-    let p1 : Place = record { ended = groups_line plan ∷ linked; rest = rest; number = first + 1 } in
-    let p2 : Place = record { ended = linked; rest = rest; number = first + 1 + 1 } in
-    let p3 : Place = record { ended = lines; rest = rest; number = first + 1 + 1 + many } in
-    let p4 : Place = record { ended = target_line plan ∷ more; rest = rest; number = first + 1 + 1 + many + count } in
-    let p5 : Place = record { ended = more; rest = rest; number = first + 1 + 1 + many + count + 1 } in
+    let q0 : Place = record { ended = tick_lines plan.tick ++ delay_line plan ∷ groups_line plan ∷ placed; rest = rest; number = second } in
+    let p0 : Place = record { ended = delay_line plan ∷ groups_line plan ∷ placed; rest = rest; number = first } in
+    let p1 : Place = record { ended = groups_line plan ∷ placed; rest = rest; number = first + 1 } in
+    let q2 : Place = record { ended = placed; rest = rest; number = first + 1 + 1 } in
+    let p2 : Place = record { ended = linked; rest = rest; number = first + 1 + 1 + named } in
+    let p3 : Place = record { ended = lines; rest = rest; number = first + 1 + 1 + named + many } in
+    let p4 : Place = record { ended = target_line plan ∷ more; rest = rest; number = first + 1 + 1 + named + many + count } in
+    let p5 : Place = record { ended = more; rest = rest; number = first + 1 + 1 + named + many + count + 1 } in
     let timed : time_at version start ≡ Ok (plan.time, q0) =
     time_again version plan.time number rest (tick_lines plan.tick ++ lines_from_delay plan) more time
     ∙ ap (λ (ls : List (List ℕ)). Ok (plan.time, record { ended = ls; rest = rest; number = second }))
@@ -382,39 +435,47 @@ scenario_again version plan number rest more s said =
     then_ok (time_at version start) (after_time version)
     (plan.time, q0) (Ok (plan, p5)) timed
     (then_ok (tick_at version q0) (after_tick version plan.time)
-    (plan.tick, p0) (Ok (plan, p5)) (length_again version plan plan.tick second rest (groups_line plan ∷ linked) s time s.tick)
+    (plan.tick, p0) (Ok (plan, p5)) (length_again version plan plan.tick second rest (groups_line plan ∷ placed) s time s.tick)
     (then_ok (form_at Delay (number_in (codes "delay")) p0) (after_delay version plan.time plan.tick)
-    (plan.delay, p1) (Ok (plan, p5)) (form_again Delay (number_in (codes "delay")) first rest (delay_line plan) (groups_line plan ∷ linked) plan.delay (delay_again plan s))
+    (plan.delay, p1) (Ok (plan, p5)) (form_again Delay (number_in (codes "delay")) first rest (delay_line plan) (groups_line plan ∷ placed) plan.delay (delay_again plan s))
     (then_ok (form_at Groups groups_in p1) (after_groups version plan.time plan.tick plan.delay)
-    (plan.groups, p2) (Ok (plan, p5)) (form_again Groups groups_in (first + 1) rest (groups_line plan) linked plan.groups (groups_again plan s))
-    (then_ok (links_at version 0 p2) (after_links version plan.time plan.tick plan.delay p2.number plan.groups)
-    (ls, p3) (Ok (plan, p5)) (links_read version plan (target_line plan) more rest (first + 1 + 1) s said)
-    (then_ok (messages_at version 0 p3) (after_messages plan.time plan.tick plan.delay p2.number plan.groups ls p3.number)
+    (plan.groups, q2) (Ok (plan, p5)) (form_again Groups groups_in (first + 1) rest (groups_line plan) placed plan.groups (groups_again plan s))
+    (then_ok (places_at version q2) (after_places version plan.time plan.tick plan.delay plan.groups)
+    (plan.places, p2) (Ok (plan, p5)) (places_again version plan.places q2.number rest linked s.place_names (can_name_places version plan said.time) (no_places plan plan.links plan.multicasts (target_line plan) more rest q2.number version s s.links s.messages s.multicasts_low))
+    (then_ok (links_at version 0 p2) (after_links version plan.time plan.tick plan.delay p2.number plan.groups plan.places)
+    (ls, p3) (Ok (plan, p5)) (links_read version plan (target_line plan) more rest p2.number s said)
+    (then_ok (messages_at version 0 p3) (after_messages plan.time plan.tick plan.delay p2.number plan.groups plan.places ls p3.number)
     (ms, p4) (Ok (plan, p5)) (messages_again version plan plan.multicasts (target_line plan) more rest 0 p3.number s s.messages (can_wait version plan said.time) (not_due plan s within) (omega (arith, s.multicasts_high)) (omega (arith, s.multicasts_low)))
-    (then_ok (form_at Target target_in p4) (after_target plan.time plan.tick plan.delay p2.number plan.groups ls p3.number ms)
+    (then_ok (form_at Target target_in p4) (after_target plan.time plan.tick plan.delay p2.number plan.groups plan.places ls p3.number ms)
     (target, p5) (Ok (plan, p5)) (form_again Target target_in p4.number rest (target_line plan) more target (target_line_again plan s within))
     (then_ok (told (scenario_of_draft (draft_for plan))) (λ plan'. where_ordered Link (first_misplaced_link p2.number (draft_for plan)) plan' >>= λ linked. where_ordered Multicast (first_unordered plan.groups p3.number ms) linked >>= λ ordered. Ok (ordered, p5))
     plan (Ok (plan, p5)) (ap told (made_again plan s))
     (ap (λ o. where_ordered Link o plan >>= λ linked. where_ordered Multicast (first_unordered plan.groups p3.number ms) linked >>= λ ordered. Ok (ordered, p5)) (none_astray plan p2.number s)
-    ∙ ap (λ o. where_ordered Multicast o plan >>= λ ordered. Ok (ordered, p5)) (none_unordered plan p3.number plan.multicasts (ap (λ (p : Scenario). p.multicasts) (numbered_again plan s))))))))))) in
+    ∙ ap (λ o. where_ordered Multicast o plan >>= λ ordered. Ok (ordered, p5)) (none_unordered plan p3.number plan.multicasts (ap (λ (p : Scenario). p.multicasts) (numbered_again plan s)))))))))))) in
     let past : p5.number ≡ number + length (scenario_lines version plan) = omega (arith, count_lines plan, count_all version plan) in
     read ∙ ap (λ n. Ok (plan, record { ended = more; rest = rest; number = n })) past
 
 -- ---- no line has a byte 10 in it
 
-message_lines : (plan : Scenario) (ms : List Message) → IsScenario plan → All (IsMulticast (length plan.groups)) ms → AreLines (map (multicast_line plan) ms)
+message_lines : (plan : Scenario) (ms : List Message) → IsScenario plan → All (IsMulticast (length plan.groups) (length plan.places)) ms → AreLines (map (multicast_line plan) ms)
 message_lines plan [] s are = tt
 message_lines plan (m ∷ ms) s are =
-    let words = message_words plan m s (All-head (IsMulticast (length plan.groups)) m ms are) in (
+    let words = message_words plan m s (All-head (IsMulticast (length plan.groups) (length plan.places)) m ms are) in (
       line_lacks (codes "multicast") (m.name ∷ sender_word plan m.sender ∷ issue_word m.at m.longest_wait ∷ map (group_name_at plan) m.destinations) refl words,
-      message_lines plan ms s (All-tail (IsMulticast (length plan.groups)) m ms are),
+      message_lines plan ms s (All-tail (IsMulticast (length plan.groups) (length plan.places)) m ms are),
     )
 
-link_lines : (plan : Scenario) (ls : List plans.Link) → IsScenario plan → All (IsLink (length plan.groups) plan.delay) ls → AreLines (map (link_line plan) ls)
+link_lines : (plan : Scenario) (ls : List plans.Link) → IsScenario plan → All (IsLink (length plan.groups) (length plan.places) plan.delay) ls → AreLines (map (link_line plan) ls)
 link_lines plan [] s are = tt
 link_lines plan (l ∷ ls) s are =
-    let is = All-head (IsLink (length plan.groups) plan.delay) l ls are in
-    (line_lacks (codes "link") (sender_word plan l.sender ∷ group_name_at plan l.to ∷ decimal l.least ∷ decimal l.most ∷ stamps_words l.stamps) refl (link_words plan l s is), link_lines plan ls s (All-tail (IsLink (length plan.groups) plan.delay) l ls are))
+    let is = All-head (IsLink (length plan.groups) (length plan.places) plan.delay) l ls are in
+    (line_lacks (codes "link") (sender_word plan l.sender ∷ group_name_at plan l.to ∷ decimal l.least ∷ decimal l.most ∷ stamps_words l.stamps) refl (link_words plan l s is), link_lines plan ls s (All-tail (IsLink (length plan.groups) (length plan.places) plan.delay) l ls are))
+
+places_lines_are : (places : List (List ℕ)) → All (λ name. is_group_name name ≡ true) places → AreLines (places_lines places)
+places_lines_are [] all = tt
+places_lines_are (name ∷ names) all =
+    let places : List (List ℕ) = name ∷ names in
+    rw (one_line places (omega arith)) (line_lacks (codes "places") places refl (names_words places all).0, tt)
 
 time_lines_are : (version : Version) (time : Time) → AreLines (time_lines version time)
 time_lines_are One time = tt
@@ -434,8 +495,9 @@ lines_from_delay_are plan s within =
       line_lacks (codes "delay") (decimal plan.delay ∷ []) refl (decimal_word plan.delay (omega (arith, s.delay_high)), tt),
       (
         line_lacks (codes "groups") plan.groups refl (names_words plan.groups s.group_names).0,
-        lines_append (map (link_line plan) plan.links) (map (multicast_line plan) plan.multicasts ++ target_line plan ∷ []) (link_lines plan plan.links s s.links)
-            (lines_append (map (multicast_line plan) plan.multicasts) (target_line plan ∷ []) (message_lines plan plan.multicasts s s.messages) (target, tt)),
+        lines_append (places_lines plan.places) (map (link_line plan) plan.links ++ (map (multicast_line plan) plan.multicasts ++ target_line plan ∷ [])) (places_lines_are plan.places s.place_names)
+            (lines_append (map (link_line plan) plan.links) (map (multicast_line plan) plan.multicasts ++ target_line plan ∷ []) (link_lines plan plan.links s s.links)
+            (lines_append (map (multicast_line plan) plan.multicasts) (target_line plan ∷ []) (message_lines plan plan.multicasts s s.messages) (target, tt))),
       ),
     )
 

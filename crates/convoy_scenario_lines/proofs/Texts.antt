@@ -8,7 +8,7 @@ use Rattle.convoy_scenario.specs.Scenario.{Scenario, Link, group_name_at}
 use Rattle.convoy_scenario.specs.declared.sender.Sender.{Sender}
 use Rattle.convoy_scenario_lines.specs.declared.version.Version.{Version}
 use Rattle.convoy_lines.specs.Texts.{ended, line_of, spaced, text_of}
-use Rattle.convoy_scenario_lines.specs.ScenarioLines.{time_lines, tick_lines, lines_from_delay, delay_line, groups_line, link_line, stamps_words, multicast_line, target_line, scenario_text}
+use Rattle.convoy_scenario_lines.specs.ScenarioLines.{time_lines, tick_lines, lines_from_delay, delay_line, groups_line, places_lines, link_line, stamps_words, multicast_line, target_line, scenario_text}
 
 pub flat_map_map : {A B C : Type 0} (f : B → List C) (g : A → B) (xs : List A) → flat_map f (map g xs) ≡ flat_map (λ x. f (g x)) xs
 flat_map_map f g [] = refl
@@ -16,25 +16,27 @@ flat_map_map f g (x ∷ xs) = ap (λ rest. f (g x) ++ rest) (flat_map_map f g xs
 
 -- the text of a scenario, line by line
 pub pieces : (version : Version) (plan : Scenario)
-    → scenario_text version plan ≡ text_of (time_lines version plan.time) ++ (text_of (tick_lines plan.tick) ++ (ended (delay_line plan) ++ (ended (groups_line plan) ++ (text_of (map (link_line plan) plan.links) ++ (text_of (map (multicast_line plan) plan.multicasts) ++ ended (target_line plan))))))
+    → scenario_text version plan ≡ text_of (time_lines version plan.time) ++ (text_of (tick_lines plan.tick) ++ (ended (delay_line plan) ++ (ended (groups_line plan) ++ (text_of (places_lines plan.places) ++ (text_of (map (link_line plan) plan.links) ++ (text_of (map (multicast_line plan) plan.multicasts) ++ ended (target_line plan)))))))
 pieces version plan =
     let end : text_of (target_line plan ∷ []) ≡ ended (target_line plan) = append-nil (ended (target_line plan)) in
     let rest : text_of (map (multicast_line plan) plan.multicasts ++ target_line plan ∷ []) ≡ text_of (map (multicast_line plan) plan.multicasts) ++ ended (target_line plan) =
     flat_map-append ended (map (multicast_line plan) plan.multicasts) (target_line plan ∷ []) ∙ ap (λ t. text_of (map (multicast_line plan) plan.multicasts) ++ t) end in
     let links : text_of (map (link_line plan) plan.links ++ (map (multicast_line plan) plan.multicasts ++ target_line plan ∷ [])) ≡ text_of (map (link_line plan) plan.links) ++ (text_of (map (multicast_line plan) plan.multicasts) ++ ended (target_line plan)) =
     flat_map-append ended (map (link_line plan) plan.links) (map (multicast_line plan) plan.multicasts ++ target_line plan ∷ []) ∙ ap (λ t. text_of (map (link_line plan) plan.links) ++ t) rest in
+    let places : text_of (places_lines plan.places ++ (map (link_line plan) plan.links ++ (map (multicast_line plan) plan.multicasts ++ target_line plan ∷ []))) ≡ text_of (places_lines plan.places) ++ (text_of (map (link_line plan) plan.links) ++ (text_of (map (multicast_line plan) plan.multicasts) ++ ended (target_line plan))) =
+    flat_map-append ended (places_lines plan.places) (map (link_line plan) plan.links ++ (map (multicast_line plan) plan.multicasts ++ target_line plan ∷ [])) ∙ ap (λ t. text_of (places_lines plan.places) ++ t) links in
     flat_map-append ended (time_lines version plan.time) (tick_lines plan.tick ++ lines_from_delay plan)
-    ∙ ap (λ t. text_of (time_lines version plan.time) ++ t) (flat_map-append ended (tick_lines plan.tick) (lines_from_delay plan) ∙ ap (λ t. text_of (tick_lines plan.tick) ++ (ended (delay_line plan) ++ (ended (groups_line plan) ++ t))) links)
+    ∙ ap (λ t. text_of (time_lines version plan.time) ++ t) (flat_map-append ended (tick_lines plan.tick) (lines_from_delay plan) ∙ ap (λ t. text_of (tick_lines plan.tick) ++ (ended (delay_line plan) ++ (ended (groups_line plan) ++ t))) places)
 
-regroup : (t k a b l m e : List ℕ) → (((((t ++ k) ++ a) ++ b) ++ l) ++ m) ++ e ≡ t ++ (k ++ (a ++ (b ++ (l ++ (m ++ e)))))
-regroup t k a b l m e = simp append_assoc
+regroup : (t k a b p l m e : List ℕ) → ((((((t ++ k) ++ a) ++ b) ++ p) ++ l) ++ m) ++ e ≡ t ++ (k ++ (a ++ (b ++ (p ++ (l ++ (m ++ e))))))
+regroup t k a b p l m e = simp append_assoc
 
 -- the text of a scenario that is appended line by line
-pub in_pieces : (version : Version) (plan : Scenario) (none t0 k0 t1 t2 t3 t4 t5 : List ℕ) → none ≡ [] → t0 ≡ none ++ text_of (time_lines version plan.time) → k0 ≡ t0 ++ text_of (tick_lines plan.tick) → t1 ≡ k0 ++ ended (delay_line plan) → t2 ≡ t1 ++ ended (groups_line plan) → t3 ≡ t2 ++ text_of (map (link_line plan) plan.links)
+pub in_pieces : (version : Version) (plan : Scenario) (none t0 k0 t1 t2 p2 t3 t4 t5 : List ℕ) → none ≡ [] → t0 ≡ none ++ text_of (time_lines version plan.time) → k0 ≡ t0 ++ text_of (tick_lines plan.tick) → t1 ≡ k0 ++ ended (delay_line plan) → t2 ≡ t1 ++ ended (groups_line plan) → p2 ≡ t2 ++ text_of (places_lines plan.places) → t3 ≡ p2 ++ text_of (map (link_line plan) plan.links)
     → t4 ≡ t3 ++ text_of (map (multicast_line plan) plan.multicasts) → t5 ≡ t4 ++ ended (target_line plan) → t5 ≡ scenario_text version plan
-in_pieces version plan none t0 k0 t1 t2 t3 t4 t5 e e0 k1 e1 e2 e3 e4 e5 =
-    let all : t5 ≡ (((((text_of (time_lines version plan.time) ++ text_of (tick_lines plan.tick)) ++ ended (delay_line plan)) ++ ended (groups_line plan)) ++ text_of (map (link_line plan) plan.links)) ++ text_of (map (multicast_line plan) plan.multicasts)) ++ ended (target_line plan) = rw (e5, e4, e3, e2, e1, k1, e0, e) refl in
-    all ∙ regroup (text_of (time_lines version plan.time)) (text_of (tick_lines plan.tick)) (ended (delay_line plan)) (ended (groups_line plan)) (text_of (map (link_line plan) plan.links)) (text_of (map (multicast_line plan) plan.multicasts)) (ended (target_line plan)) ∙ sym (pieces version plan)
+in_pieces version plan none t0 k0 t1 t2 p2 t3 t4 t5 e e0 k1 e1 e2 pe e3 e4 e5 =
+    let all : t5 ≡ ((((((text_of (time_lines version plan.time) ++ text_of (tick_lines plan.tick)) ++ ended (delay_line plan)) ++ ended (groups_line plan)) ++ text_of (places_lines plan.places)) ++ text_of (map (link_line plan) plan.links)) ++ text_of (map (multicast_line plan) plan.multicasts)) ++ ended (target_line plan) = rw (e5, e4, e3, pe, e2, e1, k1, e0, e) refl in
+    all ∙ regroup (text_of (time_lines version plan.time)) (text_of (tick_lines plan.tick)) (ended (delay_line plan)) (ended (groups_line plan)) (text_of (places_lines plan.places)) (text_of (map (link_line plan) plan.links)) (text_of (map (multicast_line plan) plan.multicasts)) (ended (target_line plan)) ∙ sym (pieces version plan)
 
 -- pieces that are appended one by one
 pub in_map : {A B C : Type 0} (f : B → List C) (g : A → B) (xs : List A) (i : ℕ) (old new : List C) → length xs ≤ i → new ≡ old ++ flat_map (λ x. f (g x)) (take i xs) → new ≡ old ++ flat_map f (map g xs)

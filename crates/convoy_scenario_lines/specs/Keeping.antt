@@ -1,22 +1,22 @@
--- What a reader keeps of a line with more names than there may be groups. Such a line is one of no scenario, and what is kept of it has the fault of the whole.
-use Rattle.std.specs.Prelude.{ℕ, not, List, [], ◌∷◌, map, take, Option, Some, None, option_map, codes, find, Result, Ok}
+-- What a reader keeps of a line with more names than there may be groups, or places. Such a line is one of no scenario, and what is kept of it has the fault of the whole.
+use Rattle.std.specs.Prelude.{ℕ, not, if◌then◌else◌, List, [], ◌∷◌, map, take, Option, Some, None, option_map, codes, find, Result, Ok}
 use Rattle.convoy_scenario_lines.specs.declared.line_forms.TheConstants.{MOST_KEPT_NAMES}
-use Rattle.convoy_scenario_lines.specs.declared.line_fault.Expected.TheVariants.{Delay, Groups, Link, Multicast, Target}
+use Rattle.convoy_scenario_lines.specs.declared.line_fault.Expected.TheVariants.{Delay, Groups, Places, Link, Multicast, Target}
 use Rattle.convoy_scenario_lines.specs.declared.line_fault.LineFault.{LineFault}
 use Rattle.convoy_scenario_lines.specs.declared.version.Version.{Version}
 use Rattle.convoy_lines.specs.Labels.{number_in}
-use Rattle.convoy_lines.specs.Places.{Place}
+use Rattle.convoy_lines.specs.Places.{Place, upcoming}
 use Rattle.convoy_lines.specs.Results.{◌>>=◌}
 use Rattle.convoy_draft.specs.Checks.{is_among}
 use Rattle.convoy_draft.specs.Draft.{DraftMessage}
-use Rattle.convoy_scenario_lines.specs.LineForms.{groups_in, multicast_in, target_in}
-use Rattle.convoy_scenario_lines.specs.LineReading.{form_at, time_at, tick_at, links_at, messages_at, draft_of, told, first_misplaced_link, first_unordered, where_ordered}
+use Rattle.convoy_scenario_lines.specs.LineForms.{names_in, multicast_in, target_in}
+use Rattle.convoy_scenario_lines.specs.LineReading.{form_at, time_at, tick_at, is_places_due, links_at, messages_at, draft_of, told, first_misplaced_link, first_unordered, where_ordered}
 use Rattle.convoy_scenario.specs.Numbering.{scenario_of_draft}
 use Rattle.convoy_scenario.specs.Scenario.{Scenario}
 
--- of the groups: the first ones
-abbrev pub kept_groups : List (List ℕ) → List (List ℕ)
-kept_groups groups = take MOST_KEPT_NAMES groups
+-- of the names of groups, or of places: the first ones
+abbrev pub kept_names : List (List ℕ) → List (List ℕ)
+kept_names names = take MOST_KEPT_NAMES names
 
 -- the first of the names that is none of the groups
 abbrev pub first_unknown : List (List ℕ) → List (List ℕ) → Option (List ℕ)
@@ -24,7 +24,7 @@ first_unknown groups names = find (λ name. not (is_among name groups)) names
 
 -- that name alone, or, where there is none, the first ones
 abbrev pub alone_or_first : List (List ℕ) → Option (List ℕ) → List (List ℕ)
-alone_or_first names None = take MOST_KEPT_NAMES names
+alone_or_first names None = kept_names names
 alone_or_first names (Some name) = name ∷ []
 
 -- of the destinations of a message: the first that is none of the groups, or else the first ones
@@ -35,9 +35,15 @@ kept_destinations groups to = alone_or_first to (first_unknown groups to)
 abbrev pub kept_message : List (List ℕ) → DraftMessage → DraftMessage
 kept_message groups message = record { name = message.name; sender = message.sender; to = kept_destinations groups message.to; at = message.at; until = message.until }
 
--- the names that are kept of a line `groups`
-abbrev pub kept_groups_in : List ℕ → Option (List (List ℕ))
-kept_groups_in line = option_map kept_groups (groups_in line)
+-- the names that are kept of a line that begins with that word
+abbrev pub kept_names_in : List ℕ → List ℕ → Option (List (List ℕ))
+kept_names_in label line = option_map kept_names (names_in label line)
+
+-- the places that are kept of the next line, where it begins with `places`
+abbrev pub kept_places_at : Version → Place → Result (List (List ℕ) × Place) LineFault
+kept_places_at version place =
+    if is_places_due version (upcoming place) then form_at Places (kept_names_in (codes "places")) place
+    else Ok ([], place)
 
 -- the message that is kept of a line `multicast`
 abbrev pub kept_multicast_in : Version → List (List ℕ) → List ℕ → Option DraftMessage
@@ -53,11 +59,12 @@ kept_scenario_at version place = do
   time ← time_at version place
   tick ← tick_at version time.1
   delay ← form_at Delay (number_in (codes "delay")) tick.1
-  groups ← form_at Groups kept_groups_in delay.1
-  links ← links_at version 0 groups.1
+  groups ← form_at Groups (kept_names_in (codes "groups")) delay.1
+  places ← kept_places_at version groups.1
+  links ← links_at version 0 places.1
   messages ← kept_messages_at version groups.0 0 links.1
   target ← form_at Target target_in messages.1
-  scenario ← told (scenario_of_draft (draft_of time.0 tick.0 delay.0 groups.0 links.0 messages.0 target.0))
-  linked ← where_ordered Link (first_misplaced_link groups.1.number (draft_of time.0 tick.0 delay.0 groups.0 links.0 messages.0 target.0)) scenario
+  scenario ← told (scenario_of_draft (draft_of time.0 tick.0 delay.0 groups.0 places.0 links.0 messages.0 target.0))
+  linked ← where_ordered Link (first_misplaced_link places.1.number (draft_of time.0 tick.0 delay.0 groups.0 places.0 links.0 messages.0 target.0)) scenario
   ordered ← where_ordered Multicast (first_unordered groups.0 links.1.number messages.0) linked
   Ok (ordered, target.1)

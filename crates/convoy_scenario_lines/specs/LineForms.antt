@@ -19,7 +19,7 @@ use Rattle.convoy_scenario_lines.specs.ScenarioLines.{time_line}
 abbrev pub name_of : List ℕ → List ℕ
 name_of word = if is_utf8 word then word else []
 
--- the sender that a word names: none for a client
+-- the sender that a word names: none for a client of no named place
 abbrev pub named_sender : List ℕ → Option (List ℕ)
 named_sender word = if bytes_eq word client_word then None else Some (name_of word)
 
@@ -41,11 +41,19 @@ tick_in line = do
   tick ← within_longest (number * unit_length named)
   if nat_le 1 number && bytes_eq unit.0 (unit_word (unit_of tick)) && length unit.1 == 0 then Some tick else None
 
--- the names of a line `groups`, one at least
-abbrev pub groups_in : List ℕ → Option (List (List ℕ))
-groups_in line = do
-  words ← words_after (codes "groups") line
+-- the names of a line that begins with that word, one at least
+abbrev pub names_in : List ℕ → List ℕ → Option (List (List ℕ))
+names_in label line = do
+  words ← words_after label line
   if nat_le 1 (length words) then Some (map name_of words) else None
+
+-- the names of a line `groups`
+abbrev pub groups_in : List ℕ → Option (List (List ℕ))
+groups_in line = names_in (codes "groups") line
+
+-- the names of a line `places`
+abbrev pub places_in : List ℕ → Option (List (List ℕ))
+places_in line = names_in (codes "places") line
 
 -- the greatest number of 16 bits
 abbrev pub greatest_delay_number : ℕ

@@ -9,7 +9,7 @@ use Rattle.convoy_draft.specs.declared.fault.ScenarioFault.TheVariants.{OverLimi
 use Rattle.convoy_draft.specs.declared.fault.Limit.TheVariants as limit
 use Rattle.convoy_draft.specs.declared.limits.TheConstants.{MOST_LINKS, MOST_MULTICASTS}
 use Rattle.convoy_scenario_lines.specs.declared.line_fault.Expected.{Expected}
-use Rattle.convoy_scenario_lines.specs.declared.line_fault.Expected.TheVariants.{Time, Tick, Delay, Groups, Link, Multicast, Target}
+use Rattle.convoy_scenario_lines.specs.declared.line_fault.Expected.TheVariants.{Time, Tick, Delay, Groups, Places, Link, Multicast, Target}
 use Rattle.convoy_scenario_lines.specs.declared.line_fault.LineFault.{LineFault}
 use Rattle.convoy_scenario_lines.specs.declared.line_fault.LineFault.TheVariants as faults
 use Rattle.convoy_scenario_lines.specs.declared.version.Version.{Version}
@@ -19,7 +19,7 @@ use Rattle.convoy_draft.specs.declared.time.Time.TheVariants.{Ticks}
 use Rattle.convoy_draft.specs.Checks.{is_among}
 use Rattle.convoy_draft.specs.Draft.{Draft, DraftLink, DraftMessage}
 use Rattle.convoy_lines.specs.Labels.{begins_with, number_in}
-use Rattle.convoy_scenario_lines.specs.LineForms.{time_in, tick_in, groups_in, link_in, multicast_in, target_in}
+use Rattle.convoy_scenario_lines.specs.LineForms.{time_in, tick_in, groups_in, places_in, link_in, multicast_in, target_in}
 use Rattle.convoy_lines.specs.Words.{words_of}
 use Rattle.convoy_scenario.specs.Numbering.{delay_of_draft, links_of_draft, scenario_of_draft}
 use Rattle.convoy_scenario.specs.Scenario.{Link as AnyLink, Scenario}
@@ -51,6 +51,18 @@ tick_at version place =
       tick ← form_at Tick tick_in place
       Ok (Some tick.0, tick.1))
     else Ok (None, place)
+
+-- a line `places` is due: the version has such lines, and what comes next begins with that word
+abbrev pub is_places_due : Version → List ℕ → Bool
+is_places_due One line = false
+is_places_due Two line = false
+is_places_due Three line = begins_with (codes "places") (words_of line)
+
+-- the names of the places: those of the next line, where it begins with `places`, and else none
+abbrev pub places_at : Version → Place → Result (List (List ℕ) × Place) LineFault
+places_at version place =
+    if is_places_due version (upcoming place) then form_at Places places_in place
+    else Ok ([], place)
 
 -- a line `link` is due: the version has such lines, and what comes next begins with that word
 abbrev pub is_link_due : Version → List ℕ → Bool
@@ -93,9 +105,9 @@ abbrev pub messages_at : Version → ℕ → Place → Result (List DraftMessage
 messages_at version count place = messages_in version count place.number place.rest place.ended
 
 -- the draft of what the lines say
-abbrev pub draft_of : AnyTime → Option ℕ → ℕ → List (List ℕ) → List DraftLink → List DraftMessage → List ℕ × List ℕ → Draft
-draft_of time tick delay groups links messages target =
-    record { time = time; tick = tick; delay = pos delay; groups = groups; links = links; messages = messages; target_message = target.0; target_group = target.1 }
+abbrev pub draft_of : AnyTime → Option ℕ → ℕ → List (List ℕ) → List (List ℕ) → List DraftLink → List DraftMessage → List ℕ × List ℕ → Draft
+draft_of time tick delay groups places links messages target =
+    record { time = time; tick = tick; delay = pos delay; groups = groups; places = places; links = links; messages = messages; target_message = target.0; target_group = target.1 }
 
 -- the fault of a scenario, told of lines
 abbrev pub told : Result Scenario ScenarioFault → Result Scenario LineFault
@@ -134,10 +146,11 @@ scenario_at version place = do
   tick ← tick_at version time.1
   delay ← form_at Delay (number_in (codes "delay")) tick.1
   groups ← form_at Groups groups_in delay.1
-  links ← links_at version 0 groups.1
+  places ← places_at version groups.1
+  links ← links_at version 0 places.1
   messages ← messages_at version 0 links.1
   target ← form_at Target target_in messages.1
-  scenario ← told (scenario_of_draft (draft_of time.0 tick.0 delay.0 groups.0 links.0 messages.0 target.0))
-  linked ← where_ordered Link (first_misplaced_link groups.1.number (draft_of time.0 tick.0 delay.0 groups.0 links.0 messages.0 target.0)) scenario
+  scenario ← told (scenario_of_draft (draft_of time.0 tick.0 delay.0 groups.0 places.0 links.0 messages.0 target.0))
+  linked ← where_ordered Link (first_misplaced_link places.1.number (draft_of time.0 tick.0 delay.0 groups.0 places.0 links.0 messages.0 target.0)) scenario
   ordered ← where_ordered Multicast (first_unordered groups.0 links.1.number messages.0) linked
   Ok (ordered, target.1)

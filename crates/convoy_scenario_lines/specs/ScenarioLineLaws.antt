@@ -20,7 +20,7 @@ pub record IsBetween (version : Version) (scenario : Scenario) (place past : Pla
   pub rest : place.rest ≡ past.rest
   pub number : place.number + length (scenario_lines version scenario) ≡ past.number
 
--- the lines of that version can say how time goes, who waits, and whose own stamps take time: those of versions 1 and 2 are of whole ticks in which no message may wait, and no group's own stamps take time
+-- the lines of that version can say how time goes, who waits, whose own stamps take time, and at which places clients are: those of versions 1 and 2 are of whole ticks in which no message may wait, no group's own stamps take time, and no place has a name
 abbrev pub CanSayTime : Version → Scenario → Type 0
 CanSayTime One scenario = is_timed scenario ≡ false
 CanSayTime Two scenario = is_timed scenario ≡ false
@@ -32,7 +32,7 @@ CanSayLinks One links = links ≡ []
 CanSayLinks Two links = Unit {0}
 CanSayLinks Three links = Unit {0}
 
--- the lines of that version can say the scenario: how time goes in it, who waits and whose own stamps take time, and its links
+-- the lines of that version can say the scenario: how time goes in it, who waits, whose own stamps take time and where clients are, and its links
 pub record CanSay (version : Version) (scenario : Scenario) : Type 0 where
   pub time : CanSayTime version scenario
   pub links : CanSayLinks version scenario.links

@@ -1,5 +1,5 @@
 -- The canonical lines of a scenario: the one text of each.
-use Rattle.std.specs.Prelude.{ℕ, ◌+◌, ◌==◌, Bool, true, false, if◌then◌else◌, List, [], ◌∷◌, ◌++◌, map, Option, Some, None, codes, decimal}
+use Rattle.std.specs.Prelude.{ℕ, ◌+◌, ◌==◌, Bool, true, false, if◌then◌else◌, List, [], ◌∷◌, ◌++◌, length, map, Option, Some, None, codes, decimal}
 use Rattle.convoy_lines.specs.Texts.{line_of, number_line, text_of}
 use Rattle.convoy_draft.specs.declared.time.Time.{Time}
 use Rattle.convoy_draft.specs.Durations.{count_of, unit_of, unit_word}
@@ -34,6 +34,14 @@ delay_line scenario = number_line (codes "delay") scenario.delay
 abbrev pub groups_line : Scenario → List ℕ
 groups_line scenario = line_of (codes "groups") scenario.groups
 
+-- the line that names the places of clients
+abbrev pub places_line : List (List ℕ) → List ℕ
+places_line places = line_of (codes "places") places
+
+-- that line, where there are places
+abbrev pub places_lines : List (List ℕ) → List (List ℕ)
+places_lines places = if length places == 0 then [] else places_line places ∷ []
+
 -- the last word of a link that is for stamps, too; another has no such word
 abbrev pub stamps_words : Bool → List (List ℕ)
 stamps_words true = codes "stamps" ∷ []
@@ -62,7 +70,8 @@ target_line scenario = line_of (codes "target")
 abbrev pub lines_from_delay : Scenario → List (List ℕ)
 lines_from_delay scenario =
     delay_line scenario ∷ groups_line scenario
-    ∷ (map (link_line scenario) scenario.links ++ (map (multicast_line scenario) scenario.multicasts ++ target_line scenario ∷ []))
+    ∷ (places_lines scenario.places
+    ++ (map (link_line scenario) scenario.links ++ (map (multicast_line scenario) scenario.multicasts ++ target_line scenario ∷ [])))
 
 -- the lines of a scenario, as that version has them
 abbrev pub scenario_lines : Version → Scenario → List (List ℕ)

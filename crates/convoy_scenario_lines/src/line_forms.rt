@@ -1,19 +1,23 @@
 ghost use Rattle.std.specs.Prelude.{◌≡◌, ◌≤◌, ◌==◌, Ok, [], ◌∷◌, map, codes, length, position, option_map, ok_or, IfOk, IfSome};
 ghost use Rattle.std.specs.Result.{result_map_both};
 ghost use Rattle.convoy_draft.specs.Checks.{is_among};
-ghost use Rattle.convoy_scenario_lines.specs.Keeping.{kept_groups, kept_destinations, kept_groups_in, kept_multicast_in};
+ghost use Rattle.convoy_scenario_lines.specs.Keeping.{kept_names, kept_destinations, kept_names_in, kept_multicast_in};
 ghost use Rattle.convoy_scenario.specs.Memory.{IsUnlessMemory};
 ghost use Rattle.convoy_scenario_lines.specs.LineForms.{name_of, named_sender, time_in, tick_in, own_stamps_in, stamps_in, link_in, tick_alone, around_dots, tick_range, issue_in, target_in};
 
 use super::line_fault::LineFault;
 use super::version::Version;
 use convoy_lines::{Words, number_of, words_after};
-use convoy_scenario::{DraftLink, DraftMulticast, Duration, MOST_GROUPS, Name, Time, TimeUnit};
+use convoy_scenario::{
+    DraftLink, DraftMulticast, Duration, MOST_GROUPS, MOST_PLACES, Name, Time, TimeUnit,
+};
 use std::alloc::{AllocError, Global};
 
-/// How many names of one line are kept at most: one more than there are groups at most, so that a line
-/// with more names is one of no scenario, and the names kept of it show why.
+/// How many names of one line are kept at most: one more than there are groups at most, or places, so
+/// that a line with more names is one of no scenario, and the names kept of it show why.
 pub const MOST_KEPT_NAMES: usize = MOST_GROUPS + 1;
+
+const _: () = prove!(MOST_PLACES < MOST_KEPT_NAMES);
 
 /// A word as the text of a name; one that is not UTF-8, which is no name, as the text of no bytes,
 /// which is none, either.
@@ -33,7 +37,7 @@ fn name_of(alloc: Global, word: &[u8]) -> Result<Name, AllocError>
     Name::new(alloc, text_of(word))
 }
 
-/// The sender that a word names: None for a client.
+/// The sender that a word names: None for a client of no named place.
 fn named_sender(alloc: Global, word: &[u8]) -> Result<Option<Name>, AllocError>
     ensures { IfOk result (λ sender. sender ≡ named_sender word.now) }
 {
@@ -45,7 +49,7 @@ fn named_sender(alloc: Global, word: &[u8]) -> Result<Option<Name>, AllocError>
 
 /// The first of the words that are left, as names.
 fn first_names(alloc: Global, words: Words) -> Result<Vec<Name>, AllocError>
-    ensures { IfOk result (λ names. names.items ≡ kept_groups (map name_of words.entry)) }
+    ensures { IfOk result (λ names. names.items ≡ kept_names (map name_of words.entry)) }
 {
     let mut words = words;
     let mut names = Vec::new(alloc);
@@ -121,17 +125,22 @@ pub fn tick_in(line: &[u8]) -> Option<Duration>
     }
 }
 
-/// The names that are kept of a line `groups`; `wrong` where the line has not its form.
-pub fn groups_in(alloc: Global, line: &[u8], wrong: LineFault) -> Result<Vec<Name>, LineFault>
-    ensures { IsUnlessMemory LineFault.Memory (ok_or (kept_groups_in line.now) wrong)
-        (result_map_both (λ groups. groups.items) (λ fault. fault) result) }
+/// The names that are kept of a line that begins with that word; `wrong` where the line has not its form.
+pub fn names_in(
+    alloc: Global,
+    label: &[u8],
+    line: &[u8],
+    wrong: LineFault,
+) -> Result<Vec<Name>, LineFault>
+    ensures { IsUnlessMemory LineFault.Memory (ok_or (kept_names_in label.now line.now) wrong)
+        (result_map_both (λ names. names.items) (λ fault. fault) result) }
 {
-    let words = words_after(line, b"groups").ok_or(wrong)?;
-    let groups = first_names(alloc, words)?;
-    if groups.is_empty() {
+    let words = words_after(line, label).ok_or(wrong)?;
+    let names = first_names(alloc, words)?;
+    if names.is_empty() {
         return Err(wrong);
     }
-    Ok(groups)
+    Ok(names)
 }
 
 /// Some(true) where the one word `stamps` is left, which version 3 alone has.

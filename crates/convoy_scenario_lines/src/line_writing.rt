@@ -4,11 +4,12 @@ ghost use Rattle.convoy_scenario.specs.Scenario.{message_at, group_name_at};
 ghost use Rattle.convoy_draft.specs.Durations.{count_of};
 ghost use Rattle.convoy_lines.specs.Texts.{ended, spaced, text_of};
 ghost use Rattle.convoy_scenario.specs.Naming.{sender_word};
-ghost use Rattle.convoy_scenario.specs.WellFormed.{IsLink, IsSender};
-ghost use Rattle.convoy_scenario_lines.specs.ScenarioLines.{time_line, time_lines, tick_line, tick_lines, delay_line, groups_line, link_line, stamps_words, issue_word, multicast_line, target_line, scenario_text};
+ghost use Rattle.convoy_scenario.specs.WellFormed.{IsLink};
+ghost use Rattle.convoy_scenario_lines.specs.ScenarioLines.{time_line, time_lines, tick_line, tick_lines, delay_line, groups_line, places_line, places_lines, link_line, stamps_words, issue_word, multicast_line, target_line, scenario_text};
 
 use super::version::Version;
 use convoy_lines::{push_further_word, push_number, push_number_line};
+use convoy_scenario::naming::sender_word;
 use convoy_scenario::scenario_laws::targets_are_groups;
 use convoy_scenario::{
     AllocResult, Duration, GREATEST_AT, Link, MOST_UNITS, Scenario, Sender, Time,
@@ -39,6 +40,7 @@ fn lines_of(alloc: Global, version: Version, scenario: &Scenario) -> AllocResult
     push_tick(&mut text, scenario.tick())?;
     push_number_line(&mut text, "delay", u32::from(scenario.delay()))?;
     push_groups(&mut text, scenario)?;
+    push_places(&mut text, scenario)?;
     push_links(&mut text, scenario)?;
     push_multicasts(&mut text, scenario)?;
     push_target(&mut text, scenario)?;
@@ -94,6 +96,28 @@ fn push_groups(text: &mut Vec<u8>, scenario: &Scenario) -> AllocResult<()>
     Ok(text.push(b'\n')?)
 }
 
+fn push_places(text: &mut Vec<u8>, scenario: &Scenario) -> AllocResult<()>
+    ensures { OnOk result
+        (text.new.items ≡ text.old.items ++ text_of (places_lines scenario.now.places)) }
+{
+    if scenario.place_count() == 0 {
+        Ok(())
+    } else {
+        push_places_line(text, scenario)
+    }
+}
+
+fn push_places_line(text: &mut Vec<u8>, scenario: &Scenario) -> AllocResult<()>
+    ensures { OnOk result
+        (text.new.items ≡ text.old.items ++ ended (places_line scenario.now.places)) }
+{
+    text.extend_from_slice(b"places")?;
+    for p in 0..scenario.place_count() {
+        push_further_word(text, scenario.place_name(p))?;
+    }
+    Ok(text.push(b'\n')?)
+}
+
 fn push_links(text: &mut Vec<u8>, scenario: &Scenario) -> AllocResult<()>
     ensures { OnOk result
         (text.new.items ≡ text.old.items
@@ -106,7 +130,7 @@ fn push_links(text: &mut Vec<u8>, scenario: &Scenario) -> AllocResult<()>
 }
 
 fn push_link(text: &mut Vec<u8>, scenario: &Scenario, link: &Link) -> AllocResult<()>
-    requires { IsLink (length scenario.now.groups) scenario.now.delay link.now }
+    requires { IsLink (length scenario.now.groups) (length scenario.now.places) scenario.now.delay link.now }
     ensures { OnOk result
         (text.new.items ≡ text.old.items ++ ended (link_line scenario.now link.now)) }
 {
@@ -179,14 +203,10 @@ fn push_issue(text: &mut Vec<u8>, at: u32, longest_wait: u16) -> AllocResult<()>
 }
 
 fn push_sender(text: &mut Vec<u8>, scenario: &Scenario, sender: Sender) -> AllocResult<()>
-    requires { IsSender (length scenario.now.groups) sender }
     ensures { OnOk result
         (text.new.items ≡ text.old.items ++ spaced (sender_word scenario.now sender)) }
 {
-    match sender {
-        Sender::Client => push_further_word(text, "client"),
-        Sender::Group(g) => push_further_word(text, scenario.group_name(g)),
-    }
+    push_further_word(text, sender_word(scenario, sender))
 }
 
 fn push_destinations(text: &mut Vec<u8>, scenario: &Scenario, message: usize) -> AllocResult<()>

@@ -3,14 +3,14 @@ ghost use Rattle.std.specs.Cmp.Lexicographic.{pointwise};
 ghost use Rattle.std.specs.Result.{result_map_both};
 ghost use Rattle.convoy_scenario.specs.Memory.{IsUnlessMemory};
 ghost use Rattle.convoy_lines.specs.Labels.{number_in};
-ghost use Rattle.convoy_scenario_lines.specs.Keeping.{kept_groups_in, kept_multicast_in, kept_messages_at, kept_scenario_at};
+ghost use Rattle.convoy_scenario_lines.specs.Keeping.{kept_names_in, kept_places_at, kept_multicast_in, kept_messages_at, kept_scenario_at};
 ghost use Rattle.convoy_scenario_lines.specs.LineForms.{time_in, tick_in, link_in, target_in};
-ghost use Rattle.convoy_scenario_lines.specs.LineReading.{form_at, time_at, is_tick_due, tick_at, is_link_due, links_at, first_misplaced, first_misplaced_link, is_multicast_due, is_ordered, first_unordered, told, scenario_at};
+ghost use Rattle.convoy_scenario_lines.specs.LineReading.{form_at, time_at, is_tick_due, tick_at, is_places_due, is_link_due, links_at, first_misplaced, first_misplaced_link, is_multicast_due, is_ordered, first_unordered, told, scenario_at};
 ghost use Rattle.convoy_lines.specs.Places.{upcoming};
 ghost use Rattle.convoy_scenario.specs.Numbering.{link_of, scenario_of_draft};
 
 use super::line_fault::{Expected, LineFault};
-use super::line_forms::{groups_in, link_in, multicast_in, target_in, tick_in, time_in};
+use super::line_forms::{link_in, multicast_in, names_in, target_in, tick_in, time_in};
 use super::version::Version;
 use convoy_lines::{LineReader, number_in};
 use convoy_scenario::{
@@ -63,7 +63,8 @@ fn read_kept(alloc: Global, version: Version, reader: &mut LineReader) -> Read<S
     let time = read_time(version, reader)?;
     let tick = read_tick(version, reader)?;
     let delay = read_delay(reader)?;
-    let groups = read_groups(alloc, reader)?;
+    let groups = read_names(alloc, b"groups", Expected::Groups, reader)?;
+    let places = read_places(alloc, version, reader)?;
     let first_link = reader.number();
     let links = read_links(alloc, version, reader)?;
     let first = reader.number();
@@ -75,6 +76,7 @@ fn read_kept(alloc: Global, version: Version, reader: &mut LineReader) -> Read<S
         tick,
         delay: i64::from(delay),
         groups,
+        places,
         links,
         multicasts,
         target_message,
@@ -159,13 +161,40 @@ fn read_delay(reader: &mut LineReader) -> Read<u32>
     number_in(line, b"delay").ok_or(wrong)
 }
 
-fn read_groups(alloc: Global, reader: &mut LineReader) -> Read<Vec<Name>>
-    ensures { IsUnlessMemory LineFault.Memory (form_at Expected.Groups kept_groups_in reader.old)
-        (result_map_both (λ groups. (groups.items, reader.new)) (λ fault. fault) result) }
+/// What is kept of the names of the next line, which has to begin with that word.
+fn read_names(
+    alloc: Global,
+    label: &[u8],
+    expected: Expected,
+    reader: &mut LineReader,
+) -> Read<Vec<Name>>
+    ensures { IsUnlessMemory LineFault.Memory (form_at expected (kept_names_in label.now) reader.old)
+        (result_map_both (λ names. (names.items, reader.new)) (λ fault. fault) result) }
 {
-    let wrong = LineFault::Line(reader.number(), Expected::Groups);
+    let wrong = LineFault::Line(reader.number(), expected);
     let line = reader.line().ok_or(wrong)?;
-    groups_in(alloc, line, wrong)
+    names_in(alloc, label, line, wrong)
+}
+
+/// What is kept of the names of the places: of those of the next line, where it begins with `places`.
+fn read_places(alloc: Global, version: Version, reader: &mut LineReader) -> Read<Vec<Name>>
+    ensures { IsUnlessMemory LineFault.Memory (kept_places_at version reader.old)
+        (result_map_both (λ places. (places.items, reader.new)) (λ fault. fault) result) }
+{
+    if !is_places_due(version, reader) {
+        return Ok(Vec::new(alloc));
+    }
+    read_names(alloc, b"places", Expected::Places, reader)
+}
+
+/// Whether a line `places` is due: the version has such lines, and what comes next begins with that word.
+fn is_places_due(version: Version, reader: &LineReader) -> bool
+    ensures { result ≡ is_places_due version (upcoming reader.now) }
+{
+    match version {
+        Version::One | Version::Two => false,
+        Version::Three => reader.begins_with(b"places"),
+    }
 }
 
 fn read_link(alloc: Global, version: Version, reader: &mut LineReader) -> Read<DraftLink>
@@ -263,18 +292,25 @@ fn first_misplaced_link(number: usize, draft: &DraftScenario) -> Option<usize>
     first_misplaced(
         u32::from(draft.delay_ticks()),
         &draft.groups,
+        &draft.places,
         number,
         &draft.links,
     )
 }
 
-fn first_misplaced(delay: u32, groups: &[Name], number: usize, links: &[DraftLink]) -> Option<usize>
+fn first_misplaced(
+    delay: u32,
+    groups: &[Name],
+    places: &[Name],
+    number: usize,
+    links: &[DraftLink],
+) -> Option<usize>
     requires { number ≤ 2 ^ 63 }
-    ensures { result ≡ first_misplaced delay None number (map (link_of groups.now) links.now) }
+    ensures { result ≡ first_misplaced delay None number (map (link_of groups.now places.now) links.now) }
 {
     let mut before = None;
     for (i, draft) in links.iter().enumerate() {
-        let link = Link::from_draft(draft, groups);
+        let link = Link::from_draft(draft, groups, places);
         if !link.follows(&before) || link.is_whole(delay) {
             return Some(number + i);
         }

@@ -2,12 +2,18 @@
 //! are found.
 #![tactic(auto)]
 
+pub use chance::Chance;
+pub use comings::Comings;
+pub use moves::change;
+pub use pattern::{End, Pattern};
+pub use score::Score;
 pub use seeking::seek;
 
 mod chance;
 mod climb;
 mod comings;
 mod meeting;
+mod moves;
 mod pattern;
 mod pruning;
 mod rival;

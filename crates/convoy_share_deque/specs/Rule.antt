@@ -13,7 +13,7 @@ use Rattle.convoy_share_deque.specs.Tasks.{whole_share, tasks_at, AreAllTaken, I
 
 -- no scenario, until the first branch is put
 abbrev pub no_scenario : Scenario
-no_scenario = record { time = Ticks; tick = None; delay = 0; groups = []; links = []; multicasts = []; target_message = 0; target_group = 0 }
+no_scenario = record { time = Ticks; tick = None; delay = 0; groups = []; places = []; links = []; multicasts = []; target_message = 0; target_group = 0 }
 
 -- the view of the owner of a new deque
 abbrev pub opener : View

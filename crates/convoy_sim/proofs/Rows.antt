@@ -17,7 +17,7 @@ use Rattle.convoy_scenario.proofs.RowScenarios.{message, of_two, base_with, base
 -- x arrives at b one tick before t, in its tick, or after it, in either kind of time
 raced_in : Time → Scenario
 raced_in time =
-    of_two time 3 (message (codes "t") Client (0 ∷ 1 ∷ []) 0 ∷ message (codes "x") Client (1 ∷ []) 1
+    of_two time 3 (message (codes "t") (Client 0) (0 ∷ 1 ∷ []) 0 ∷ message (codes "x") (Client 0) (1 ∷ []) 1
     ∷ message (codes "y") (Group 0) (0 ∷ 1 ∷ []) 5 ∷ []) 0 0
 
 lone : Sender → List ℕ → Scenario
@@ -25,7 +25,7 @@ lone sender destinations = of_two Ticks 5 (message (codes "m") sender destinatio
 
 -- as many groups and messages as there may be, each message from a client to all groups
 largest : Scenario
-largest = record (of_two Ticks 16 (replicate 16 (message (codes "m") Client (0 ∷ 1 ∷ 2 ∷ 3 ∷ 4 ∷ 5 ∷ 6 ∷ 7 ∷ []) 0)) 0 0) {
+largest = record (of_two Ticks 16 (replicate 16 (message (codes "m") (Client 0) (0 ∷ 1 ∷ 2 ∷ 3 ∷ 4 ∷ 5 ∷ 6 ∷ 7 ∷ []) 0)) 0 0) {
   groups = replicate 8 (codes "g");
 }
 
@@ -56,7 +56,7 @@ y_one_earlier = refl
 -- the base in which y is issued at tick 5, 6 or 7: its wait is the first of its places
 abbrev waiting : Scenario
 waiting =
-    of_two Ticks 3 (message (codes "x") Client (1 ∷ []) 0 ∷ message (codes "t") Client (0 ∷ 1 ∷ []) 0
+    of_two Ticks 3 (message (codes "x") (Client 0) (1 ∷ []) 0 ∷ message (codes "t") (Client 0) (0 ∷ 1 ∷ []) 0
     ∷ record (message (codes "y") (Group 0) (0 ∷ 1 ∷ []) 5) { longest_wait = 2 } ∷ []) 1 0
 
 waiting_packets : length (packets_of waiting) ≡ 9
@@ -114,11 +114,11 @@ lone_to_itself : latency_of (lone (Group 0) (0 ∷ [])) (in_fixed_order []) ≡ 
 unfolding lone message packets_of delay_of arrive settle arrival_rank commit_rank no_order moments_of clocks_of local_stamp final_stamp holds_back deliver latency_at latency_of
 lone_to_itself = refl
 
-lone_from_client : latency_of (lone Client (0 ∷ [])) (in_fixed_order (5 ∷ [])) ≡ 5
+lone_from_client : latency_of (lone (Client 0) (0 ∷ [])) (in_fixed_order (5 ∷ [])) ≡ 5
 unfolding lone message packets_of delay_of arrive settle arrival_rank commit_rank no_order moments_of clocks_of local_stamp final_stamp holds_back deliver latency_at latency_of
 lone_from_client = refl
 
-lone_to_two : latency_of (lone Client (0 ∷ 1 ∷ [])) (in_fixed_order (replicate 4 5)) ≡ 10
+lone_to_two : latency_of (lone (Client 0) (0 ∷ 1 ∷ [])) (in_fixed_order (replicate 4 5)) ≡ 10
 unfolding lone message packets_of delay_of arrive settle arrival_rank commit_rank no_order moments_of clocks_of local_stamp final_stamp holds_back deliver latency_at latency_of
 lone_to_two = refl
 

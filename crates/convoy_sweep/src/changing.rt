@@ -27,6 +27,7 @@ pub fn with_key(
         delay: delay_with(key, given, written.delay),
         least: written.least,
         groups: copy_names(alloc, &written.groups)?,
+        places: copy_names(alloc, &written.places)?,
         links: links_with(alloc, key, given, &written.links)?,
         agreements: copy_agreements(alloc, &written.agreements)?,
         multicasts: messages_with(alloc, key, given, &written.multicasts)?,

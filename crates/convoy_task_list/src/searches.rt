@@ -2,6 +2,7 @@ use convoy_best_order::Wanted;
 use convoy_outages::Outage;
 use convoy_sweep::{Setting, Sweep};
 use convoy_tables::Format;
+use convoy_toml::WrittenTime;
 
 /// What is found in a scenario by searches. Tables are written in the format.
 #[derive(Drop)]
@@ -9,10 +10,12 @@ pub enum SearchTask {
     /// A certificate of the greatest latency.
     Analyse,
     /// The greatest latency, what none is above through outages where these are asked for, and whether the ceiling of the
-    /// scenario is told below it.
+    /// scenario is told below it; or, in place of these two, the greatest latency where replicas so far from the leaders of
+    /// their groups have to answer, where that is asked for.
     Latency {
         with_ceiling: bool,
         outage: Option<Outage>,
+        accept: Option<WrittenTime>,
     },
     /// The greatest latency of each message at each group, as a table, with what none is above through outages where these
     /// are asked for, and whether each row has its ceiling.

@@ -1,13 +1,18 @@
 -- The faults that the rule of a task allows for a text: none is a device's.
-use Rattle.std.proofs.Common.{◌≡◌, ◌⊎◌, inl, inr, ℕ, Bool, true, false, cond, nat_le, List, Option, Some, None, Result, Ok, Err, length, string_bytes}
+use Rattle.std.proofs.Common.{◌≡◌, ◌⊎◌, inl, inr, ℕ, Bool, true, false, ◌&&◌, not, cond, nat_le, List, Option, Some, None, Result, Ok, Err, length, string_bytes}
 use Rattle.std.specs.Option.{option_map}
 use Rattle.std.specs.Result.{result_map_both}
 use Rattle.convoy_streams.specs.declared.reading.ReadFault.TheVariants.{TooLong}
 use Rattle.convoy_draft.specs.declared.duration.TimeUnit.{TimeUnit}
 use Rattle.convoy_scenario.specs.Scenario.{Scenario}
 use Rattle.convoy_toml.specs.declared.asked.Asked.{Asked}
+use Rattle.convoy_toml.specs.declared.written.WrittenTime.{WrittenTime}
 use Rattle.convoy_branch.specs.Options.{Settings}
 use Rattle.convoy_outages.specs.declared.outage.Outage.{Outage}
+use Rattle.convoy_finish_answers.specs.AcceptedLatencies.{AreReplicasRefused}
+use Rattle.convoy_workflow_words.specs.declared.fault.WorkflowFault.{WorkflowFault}
+use Rattle.convoy_workflow_words.specs.declared.fault.WorkflowFault.TheVariants as workflows
+use Rattle.convoy_workflows.specs.Reading.{is_workflow_text}
 use Rattle.convoy_certificate.specs.Certificate.{Certificate}
 use Rattle.convoy_certificate.specs.Reading.{certificate_of}
 use Rattle.convoy_certificate.specs.TextForms.{form_of}
@@ -25,7 +30,7 @@ use Rattle.convoy_commands.specs.Asks.{AskSays}
 use Rattle.convoy_commands.specs.First.{first_text}
 use Rattle.convoy_commands.specs.Inputs.{reply_of_reading, reply_to_form}
 use Rattle.convoy_commands.specs.Ceilings.{CeilingSays, IsOutageRefused}
-use Rattle.convoy_commands.specs.Faults.{told_of_kinds, told_of_plan, told_of_ranges, told_of_trace}
+use Rattle.convoy_commands.specs.Faults.{told_of_kinds, told_of_plan, told_of_ranges, told_of_trace, told_of_workflow}
 use Rattle.convoy_commands.specs.Ranging.{RangesSay, links_told}
 use Rattle.convoy_commands.specs.Replies.{fine}
 use Rattle.convoy_commands.specs.Searches.{IsFaultyBy}
@@ -84,7 +89,7 @@ use Rattle.convoy_text_answers.specs.LinkAnswers.{beside_reply, beside_says, lin
 use Rattle.convoy_trace_ranges.specs.Answers.{trace_ranges_text}
 use Rattle.convoy_trace_ranges.specs.Beside.{beside_told}
 use Rattle.convoy_trace_ranges.specs.LinkTables.{trace_table_text}
-use Rattle.convoy_tasks.specs.Tasks.{certificate_says, kinds_say, latency_by, plan_says, scenario_says, search_says, survey_by, task_says, trace_task_says}
+use Rattle.convoy_tasks.specs.Tasks.{certificate_says, greatest_says, kinds_say, latency_by, plan_says, scenario_says, search_says, survey_by, task_says, telling_says, tells_late_run, trace_task_says}
 
 -- the fault of an answer is that of the reply
 fault_of_fine : (answer : Result (List ℕ) Fault) (fault : Fault) → Err fault ≡ fine answer → answer ≡ Err fault
@@ -143,11 +148,30 @@ through_no_device : (outage : Outage) (asked : Asked) (text : List ℕ) (fault :
 through_no_device outage asked text fault (inl faulty) = search_no_device asked text fault faulty
 through_no_device outage asked text fault (inr refused) = rw refused.told tt
 
-latency_no_device : (outage : Option Outage) (with_ceiling : Bool) (asked : Asked) (settings : Settings) (text : List ℕ) (fault : Fault)
-    → latency_by outage with_ceiling asked settings text (Err fault) → IsNoDevice fault
-latency_no_device None true asked settings text fault says = search_no_device asked text fault says
-latency_no_device None false asked settings text fault says = search_no_device asked text fault says
-latency_no_device (Some outage) with_ceiling asked settings text fault says = through_no_device outage asked text fault says
+accepted_no_device : (accept : WrittenTime) (asked : Asked) (text : List ℕ) (fault : Fault) → IsFaultyBy asked text fault ⊎ AreReplicasRefused accept asked text fault → IsNoDevice fault
+accepted_no_device accept asked text fault (inl faulty) = search_no_device asked text fault faulty
+accepted_no_device accept asked text fault (inr refused) = rw refused.told tt
+
+no_device_in_workflow : (cause : WorkflowFault) → IsNoDevice (told_of_workflow cause)
+no_device_in_workflow (workflows.Scenario cause) = no_device_in_scenario cause
+no_device_in_workflow other = tt
+
+telling_no_device : (is_late_run : Bool) (telling : Telling) (text : List ℕ) (fault : Fault) → telling_says is_late_run telling text (Err fault) → IsNoDevice fault
+telling_no_device true telling text fault faulty = rw faulty.told (no_device_in_workflow faulty.cause)
+telling_no_device false telling text fault says = tell_no_device telling text fault says
+
+greatest_no_device : (is_workflow with_ceiling : Bool) (asked : Asked) (settings : Settings) (text : List ℕ) (fault : Fault)
+    → greatest_says is_workflow with_ceiling asked settings text (Err fault) → IsNoDevice fault
+greatest_no_device true with_ceiling asked settings text fault faulty = rw faulty.told (no_device_in_workflow faulty.cause)
+greatest_no_device false true asked settings text fault says = search_no_device asked text fault says
+greatest_no_device false false asked settings text fault says = search_no_device asked text fault says
+
+latency_no_device : (accept : Option WrittenTime) (outage : Option Outage) (with_ceiling : Bool) (asked : Asked) (settings : Settings) (text : List ℕ) (fault : Fault)
+    → latency_by accept outage with_ceiling asked settings text (Err fault) → IsNoDevice fault
+latency_no_device None None with_ceiling asked settings text fault says =
+    greatest_no_device (not with_ceiling && is_workflow_text text) with_ceiling asked settings text fault says
+latency_no_device None (Some outage) with_ceiling asked settings text fault says = through_no_device outage asked text fault says
+latency_no_device (Some accept) outage with_ceiling asked settings text fault says = accepted_no_device accept asked text fault says
 
 survey_no_device : (outage : Option Outage) (format : Format) (with_ceilings : Bool) (asked : Asked) (settings : Settings) (text : List ℕ) (fault : Fault)
     → survey_by outage format with_ceilings asked settings text (Err fault) → IsNoDevice fault
@@ -282,7 +306,7 @@ scenario_says_no_device (scenario_tasks.Ceiling simulations outage unit) asked t
 
 search_says_no_device : (what : SearchTask) (asked : Asked) (settings : Settings) (text : List ℕ) (fault : Fault) → search_says what asked settings text (Err fault) → IsNoDevice fault
 search_says_no_device searches.Analyse asked settings text fault says = search_no_device asked text fault says
-search_says_no_device (searches.Latency with_ceiling outage) asked settings text fault says = latency_no_device outage with_ceiling asked settings text fault says
+search_says_no_device (searches.Latency with_ceiling outage accept) asked settings text fault says = latency_no_device accept outage with_ceiling asked settings text fault says
 search_says_no_device (searches.Survey format with_ceilings outage) asked settings text fault says = survey_no_device outage format with_ceilings asked settings text fault says
 search_says_no_device (searches.WhatIf format shows_all) asked settings text fault says = what_if_no_device format shows_all asked settings text fault says
 search_says_no_device searches.Report asked settings text fault says = report_no_device asked settings text fault says
@@ -322,7 +346,7 @@ trace_task_no_device (trace_tasks.Table format unit) wanted text fault says =
 trace_task_no_device (trace_tasks.Beside format unit) wanted text fault says = beside_no_device wanted format unit text fault says
 
 pub says_no_device : (task : Task) (wanted : Option Scenario) (text : List ℕ) (fault : Fault) → task_says task wanted text (Err fault) → IsNoDevice fault
-says_no_device (Tell telling) wanted text fault says = tell_no_device telling text fault says
+says_no_device (Tell telling) wanted text fault says = telling_no_device (tells_late_run telling text) telling text fault says
 says_no_device (OfScenario asked what) wanted text fault says = scenario_says_no_device what asked text fault says
 says_no_device (Ceilings format group simulations outage asked unit) wanted text fault says = ceilings_no_device format outage asked unit (option_map string_bytes group) text fault says
 says_no_device (Search asked options what) wanted text fault says = search_says_no_device what asked options text fault says

@@ -1,5 +1,5 @@
 -- The tasks: what each may answer for a text, and how long the text may be.
-use Rattle.std.specs.Prelude.{ℕ, Bool, Option, Some, None, string_bytes}
+use Rattle.std.specs.Prelude.{ℕ, Bool, true, false, ◌&&◌, not, List, Option, Some, None, string_bytes}
 use Rattle.std.specs.Option.{option_map}
 use Rattle.convoy_scenario.specs.Scenario.{Scenario}
 use Rattle.convoy_commands.specs.declared.asking.Asking.TheVariants as askings
@@ -12,10 +12,17 @@ use Rattle.convoy_commands.specs.Ranging.{RangesSay}
 use Rattle.convoy_commands.specs.Replies.{Rule}
 use Rattle.convoy_commands.specs.Searches.{AnalyseSays}
 use Rattle.convoy_commands.specs.Tells.{TellSays}
+use Rattle.convoy_commands.specs.declared.telling.Telling.{Telling}
+use Rattle.convoy_commands.specs.declared.telling.Telling.TheVariants as tellings
+use Rattle.convoy_toml.specs.Reading.{as_written}
 use Rattle.convoy_commands.specs.WithCeilings.{explain_says, latency_says}
 use Rattle.convoy_commands.specs.Withins.{SaysWithin}
 use Rattle.convoy_outages.specs.declared.outage.Outage.{Outage}
 use Rattle.convoy_outage_answers.specs.Latencies.{latency_through_says}
+use Rattle.convoy_finish_answers.specs.AcceptedLatencies.{latency_accepted_says}
+use Rattle.convoy_workflows.specs.Reading.{is_workflow_text}
+use Rattle.convoy_workflow_answers.specs.WorkflowLatencies.{workflow_latency_says}
+use Rattle.convoy_workflow_answers.specs.WorstRuns.{WorstRunSays}
 use Rattle.convoy_outage_answers.specs.SurveysThrough.{SurveyThroughSays}
 use Rattle.convoy_survey.specs.CeilingTables.{CeilingsSay}
 use Rattle.convoy_survey.specs.Surveys.{SurveySays}
@@ -32,6 +39,7 @@ use Rattle.convoy_sweep.specs.Told.{CurveTold, SweepTold}
 use Rattle.convoy_branch.specs.Options.{Settings}
 use Rattle.convoy_draft.specs.declared.duration.TimeUnit.{TimeUnit}
 use Rattle.convoy_toml.specs.declared.asked.Asked.{Asked}
+use Rattle.convoy_toml.specs.declared.written.WrittenTime.{WrittenTime}
 use Rattle.convoy_best_order.specs.declared.wanted.Wanted.{Wanted}
 use Rattle.convoy_batches.specs.declared.batch_table.TheConstants.{LONGEST_BATCH}
 use Rattle.convoy_batches.specs.BatchTables.{BatchTableSays}
@@ -56,16 +64,46 @@ use Rattle.convoy_task_list.specs.declared.task.Task.{Task}
 use Rattle.convoy_task_list.specs.declared.task.Task.TheVariants.{Tell, Scenario as OfScenario, Ceilings, Search, BatchTable, Plan, Certificate as OfCertificate, Kinds, Trace, Ranges}
 use Rattle.convoy_tasks.specs.ScenarioTexts.{ScenarioTextSays}
 
+-- a late run is told where the scenario of a workflow is asked for
+abbrev pub tells_late_run : Telling → List ℕ → Bool
+tells_late_run tellings.Simulate text = false
+tells_late_run tellings.Timeline text = false
+tells_late_run tellings.Packets text = false
+tells_late_run tellings.Toml text = is_workflow_text text
+
+-- such a run, or what is told of a scenario or of a certificate
+abbrev pub telling_says : Bool → Telling → Rule
+telling_says true telling = WorstRunSays as_written
+telling_says false telling = TellSays telling
+
+-- the one or the other, as the text is
+abbrev pub told_by : Telling → Rule
+told_by telling text = telling_says (tells_late_run telling text) telling text
+
 -- what a scenario answers without a search
 abbrev pub scenario_says : ScenarioTask → Asked → Rule
 scenario_says scenarios.First asked = FirstSays asked
 scenario_says scenarios.Text asked = ScenarioTextSays asked
 scenario_says (scenarios.Ceiling simulations outage unit) asked = CeilingSays outage asked unit
 
--- the greatest latency, with what none is above through outages where these are asked for, and the ceiling of the scenario where that is
-abbrev pub latency_by : Option Outage → Bool → Asked → Settings → Rule
-latency_by None with_ceiling asked settings = latency_says with_ceiling asked settings
-latency_by (Some outage) with_ceiling asked settings = latency_through_says with_ceiling outage asked settings
+-- the greatest latency of a workflow, or of a scenario, with its ceiling where that is asked for
+abbrev pub greatest_says : Bool → Bool → Asked → Settings → Rule
+greatest_says true with_ceiling asked settings = workflow_latency_says asked settings
+greatest_says false with_ceiling asked settings = latency_says with_ceiling asked settings
+
+-- the one, where the text is that of a workflow and no ceiling is asked for, and else the other
+abbrev pub latency_told_by : Bool → Asked → Settings → Rule
+latency_told_by with_ceiling asked settings text = greatest_says (not with_ceiling && is_workflow_text text) with_ceiling asked settings text
+
+-- the same, with what none is above through outages where these are asked for
+abbrev pub latency_through_by : Option Outage → Bool → Asked → Settings → Rule
+latency_through_by None with_ceiling asked settings = latency_told_by with_ceiling asked settings
+latency_through_by (Some outage) with_ceiling asked settings = latency_through_says with_ceiling outage asked settings
+
+-- the same, or in place of these two the greatest latency where replicas have to answer, where that is asked for
+abbrev pub latency_by : Option WrittenTime → Option Outage → Bool → Asked → Settings → Rule
+latency_by None outage with_ceiling asked settings = latency_through_by outage with_ceiling asked settings
+latency_by (Some accept) outage with_ceiling asked settings = latency_accepted_says accept asked settings
 
 -- the greatest latencies of all targets, likewise
 abbrev pub survey_by : Option Outage → Format → Bool → Asked → Settings → Rule
@@ -75,7 +113,7 @@ survey_by (Some outage) format with_ceilings asked settings = SurveyThroughSays 
 -- what is found in it by searches with these settings
 abbrev pub search_says : SearchTask → Asked → Settings → Rule
 search_says searches.Analyse asked settings = AnalyseSays asked settings
-search_says (searches.Latency with_ceiling outage) asked settings = latency_by outage with_ceiling asked settings
+search_says (searches.Latency with_ceiling outage accept) asked settings = latency_by accept outage with_ceiling asked settings
 search_says (searches.Survey format with_ceilings outage) asked settings = survey_by outage format with_ceilings asked settings
 search_says (searches.WhatIf format shows_all) asked settings = WhatIfSays format shows_all asked settings
 search_says searches.Report asked settings = ReportSays asked settings
@@ -114,7 +152,7 @@ trace_task_says (traces.Beside format unit) wanted = beside_says wanted format u
 
 -- THE RULE OF A TASK: what may be answered for a text. The scenario that is wanted, if one is, is that of which a certificate has to be, or a trace; no other task looks at it.
 abbrev pub task_says : Task → Option Scenario → Rule
-task_says (Tell telling) wanted = TellSays telling
+task_says (Tell telling) wanted = told_by telling
 task_says (OfScenario asked what) wanted = scenario_says what asked
 task_says (Ceilings format group simulations outage asked unit) wanted = CeilingsSay format outage asked unit (option_map string_bytes group)
 task_says (Search asked options what) wanted = search_says what asked options

@@ -5,7 +5,8 @@ ghost use Rattle.convoy_commands.specs.WithCeilings.{explain_says};
 ghost use Rattle.convoy_commands.specs.Withins.{SaysWithin};
 ghost use Rattle.convoy_commands.specs.declared.done.Done.TheVariants.{NotChecked};
 ghost use Rattle.convoy_survey.specs.CeilingTables.{CeilingsSay};
-ghost use Rattle.convoy_tasks.specs.Tasks.{IsToldAtOnce, certificate_says, kinds_say, latency_by, longest_for, longest_for_plan, plan_says, scenario_says, search_says, survey_by, task_says, trace_task_says};
+ghost use Rattle.convoy_tasks.specs.Tasks.{IsToldAtOnce, certificate_says, kinds_say, latency_by, latency_through_by, latency_told_by, longest_for, longest_for_plan, plan_says, scenario_says, search_says, survey_by, task_says, told_by, trace_task_says};
+ghost use Rattle.convoy_commands.specs.declared.telling.Telling.TheVariants.{Toml};
 
 use super::scenario_text::answer_scenario;
 use convoy_batches::{LONGEST_BATCH, batch_table_answer};
@@ -13,9 +14,11 @@ use convoy_best_order::{Wanted, listing_answer, order_answer};
 use convoy_best_plan::{PlanWatch, placing_answer, plan_answer};
 use convoy_budget::budget_answer;
 use convoy_commands::{
-    Answer, Asking, Fault, LONGEST_CERTIFICATE, LONGEST_JOB, Options, Watch, analyse_answer, ask,
-    ceiling_answer, explain_with_ceiling, first_answer, latency_answer, ranges_answer, tell,
+    Answer, Asking, Fault, LONGEST_CERTIFICATE, LONGEST_JOB, Options, Telling, Watch,
+    analyse_answer, ask, ceiling_answer, explain_with_ceiling, first_answer, latency_answer,
+    ranges_answer, tell,
 };
+use convoy_finish_answers::latency_accepted_answer;
 use convoy_outage_answers::{latency_through_answer, survey_through_answer};
 use convoy_outages::Outage;
 use convoy_plan_ceilings::{ceiling_placing_answer, plan_ceiling_answer};
@@ -34,8 +37,10 @@ use convoy_text_answers::{
     answer_beside, answer_fits, answer_kinds, answer_trace_ranges, answer_trace_table,
     answer_worst_kind, check_answer,
 };
-use convoy_toml::Asked;
+use convoy_toml::{Asked, WrittenTime};
 use convoy_what_if::what_if_answer;
+use convoy_workflow_answers::{workflow_latency_answer, worst_run_answer};
+use convoy_workflows::is_workflow;
 use std::alloc::Global;
 use std::sync::Wait;
 use std::thread::Threads;
@@ -48,9 +53,10 @@ use std::thread::Threads;
 /// The faults are those of a text: `Fault::Scenario` where it is that of no scenario, where none of its groups has the
 /// name that is given, or where a change of it makes none; `Fault::Sweep` where its keys can't be given the values of a
 /// sweep; `Fault::Plan` where it is that of no plan, or of one that has no placement; `Fault::Kinds` where it is that of no
-/// kinds of messages; `Fault::Trace` where it is no trace of the scenario; `Fault::Outage` where outages are asked of it whose ticks
-/// are not known or too many; `Fault::Schedule` and `Fault::Order` for a schedule that is none of it; `Fault::Reading` for a scenario of more than [`LONGEST_JOB`] bytes
-/// where a certificate may be longer; `Fault::TooManyJobs`; and `Fault::Memory`.
+/// kinds of messages; `Fault::Workflow` where it is that of no workflow; `Fault::Trace` where it is no trace of the scenario; `Fault::Outage` where outages are asked of it whose ticks
+/// are not known or too many, and `Fault::Replicas` where replicas are, likewise; `Fault::Schedule` and `Fault::Order` for a
+/// schedule that is none of it; `Fault::Reading` for a scenario of more than [`LONGEST_JOB`] bytes where a certificate may
+/// be longer; `Fault::TooManyJobs`; and `Fault::Memory`.
 pub fn answer<R: Threads + Wait + Sync, W: PlanWatch + Sync>(
     rt: &R,
     alloc: Global,
@@ -120,12 +126,34 @@ pub(crate) fn answer_at_once(
         (reply_of result) }
 {
     match task {
-        Task::Tell(telling) => tell(alloc, *telling, text),
+        Task::Tell(telling) => answer_telling(alloc, *telling, text),
         Task::Scenario { asked, what } => answer_of_scenario(alloc, what, asked, text),
         Task::Certificate { unit, limit, what } => answer_certificate(
             alloc, *what, wanted, *unit, *limit, text,
         ),
         _ => unreachable!(),
+    }
+}
+
+/// What is told of a scenario or of a certificate, or a late run of a workflow, where its scenario is asked for.
+fn answer_telling(alloc: Global, telling: Telling, text: &[u8]) -> Result<Answer, Fault>
+    ensures { SaysUnlessMemory (told_by telling) text.now (reply_of result) }
+{
+    match telling {
+        Telling::Toml => answer_toml(alloc, text),
+        Telling::Simulate | Telling::Timeline | Telling::Packets => tell(alloc, telling, text),
+    }
+}
+
+/// The scenario of a text and its schedule, or that of a workflow with a late run.
+fn answer_toml(alloc: Global, text: &[u8]) -> Result<Answer, Fault>
+    ensures { SaysUnlessMemory (told_by Toml) text.now (reply_of result) }
+{
+    let is_workflow = is_workflow(alloc, text)?;
+    if is_workflow {
+        worst_run_answer(alloc, &Asked::as_written(), text)
+    } else {
+        tell(alloc, Telling::Toml, text)
     }
 }
 
@@ -167,11 +195,13 @@ fn answer_search<R: Threads + Wait + Sync, W: PlanWatch + Sync>(
         SearchTask::Latency {
             with_ceiling,
             outage,
+            accept,
         } => answer_latency(
             rt,
             alloc,
             *with_ceiling,
             *outage,
+            *accept,
             asked,
             options,
             text,
@@ -242,8 +272,29 @@ fn answer_search<R: Threads + Wait + Sync, W: PlanWatch + Sync>(
     }
 }
 
-/// The greatest latency, and what none is above through outages where these are asked for.
+/// The greatest latency, and that where replicas have to answer, where that is asked for.
 fn answer_latency<R: Threads + Wait + Sync, W: Watch + Sync>(
+    rt: &R,
+    alloc: Global,
+    with_ceiling: bool,
+    outage: Option<Outage>,
+    accept: Option<WrittenTime>,
+    asked: &Asked,
+    options: &Options,
+    text: &[u8],
+    watch: &W,
+) -> Result<Answer, Fault>
+    ensures { SaysUnlessMemory (latency_by accept outage with_ceiling asked.now options.now) text.now
+        (reply_of result) }
+{
+    match accept {
+        Some(accept) => latency_accepted_answer(rt, alloc, accept, asked, text, options, watch),
+        None => answer_through(rt, alloc, with_ceiling, outage, asked, options, text, watch),
+    }
+}
+
+/// The greatest latency, and what none is above through outages where these are asked for.
+fn answer_through<R: Threads + Wait + Sync, W: Watch + Sync>(
     rt: &R,
     alloc: Global,
     with_ceiling: bool,
@@ -253,7 +304,8 @@ fn answer_latency<R: Threads + Wait + Sync, W: Watch + Sync>(
     text: &[u8],
     watch: &W,
 ) -> Result<Answer, Fault>
-    ensures { SaysUnlessMemory (latency_by outage with_ceiling asked.now options.now) text.now (reply_of result) }
+    ensures { SaysUnlessMemory (latency_through_by outage with_ceiling asked.now options.now) text.now
+        (reply_of result) }
 {
     match outage {
         Some(outage) => latency_through_answer(
@@ -266,7 +318,27 @@ fn answer_latency<R: Threads + Wait + Sync, W: Watch + Sync>(
             options,
             watch,
         ),
-        None => latency_answer(rt, alloc, with_ceiling, asked, text, options, watch),
+        None => answer_told(rt, alloc, with_ceiling, asked, options, text, watch),
+    }
+}
+
+/// The greatest latency: of a workflow, where the text is that of one, and else of a scenario.
+fn answer_told<R: Threads + Wait + Sync, W: Watch + Sync>(
+    rt: &R,
+    alloc: Global,
+    with_ceiling: bool,
+    asked: &Asked,
+    options: &Options,
+    text: &[u8],
+    watch: &W,
+) -> Result<Answer, Fault>
+    ensures { SaysUnlessMemory (latency_told_by with_ceiling asked.now options.now) text.now (reply_of result) }
+{
+    let is_workflow = is_workflow(alloc, text)?;
+    if !with_ceiling && is_workflow {
+        workflow_latency_answer(alloc, asked, text, options)
+    } else {
+        latency_answer(rt, alloc, with_ceiling, asked, text, options, watch)
     }
 }
 

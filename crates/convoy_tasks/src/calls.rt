@@ -1,12 +1,14 @@
 //! Commands as calls of their own, which nobody watches.
 
+ghost use Rattle.std.specs.Prelude.{false};
 ghost use Rattle.convoy_commands.specs.declared.limits.TheConstants.{LONGEST_CERTIFICATE, LONGEST_JOB};
 ghost use Rattle.convoy_commands.specs.Checks.{CheckSays};
 ghost use Rattle.convoy_commands.specs.declared.done.Done.TheVariants.{NotChecked};
 ghost use Rattle.convoy_commands.specs.First.{FirstSays};
 ghost use Rattle.convoy_toml.specs.Reading.{as_written};
 ghost use Rattle.convoy_tasks.specs.Runs.{IsRun};
-ghost use Rattle.convoy_commands.specs.Searches.{AnalyseSays, LatencySays};
+ghost use Rattle.convoy_tasks.specs.Tasks.{latency_told_by};
+ghost use Rattle.convoy_commands.specs.Searches.{AnalyseSays};
 ghost use Rattle.convoy_commands.specs.Tells.{SimulateSays, TimelineSays};
 ghost use Rattle.convoy_commands.specs.Withins.{SaysWithin};
 
@@ -149,7 +151,7 @@ pub fn run_analyse<R: Threads + Wait + Sync, S: Source, K: Sink>(
     Ok(run_task(rt, alloc, &task, None, source, sink, most_reads, &[NoGate])?.done)
 }
 
-/// The command `latency`: reads a scenario to the end of the source, and writes its greatest latency
+/// The command `latency`: reads a scenario or a workflow to the end of the source, and writes its greatest latency
 /// (docs/FORMATS.md, "What `latency` writes").
 ///
 /// At `Done::Fine` what was written is the line `greatest N`: some assignment of delays to the packets
@@ -170,7 +172,7 @@ pub fn run_latency<R: Threads + Wait + Sync, S: Source, K: Sink>(
     sink: &mut K,
     options: &Options,
 ) -> Result<Done, Fault>
-    ensures { IsRun LONGEST_JOB (LatencySays as_written options.now) options.now.most_reads
+    ensures { IsRun LONGEST_JOB (latency_told_by false as_written options.now) options.now.most_reads
         S.reads K.writes source.old source.new sink.old sink.new result }
 {
     let task = Task::Search {
@@ -179,6 +181,7 @@ pub fn run_latency<R: Threads + Wait + Sync, S: Source, K: Sink>(
         what: SearchTask::Latency {
             with_ceiling: false,
             outage: None,
+            accept: None,
         },
     };
     let most_reads = options.most_reads();

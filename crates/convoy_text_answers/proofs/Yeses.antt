@@ -14,14 +14,14 @@ use Rattle.convoy_certificate.specs.CertificateLaws.{TextsDiffer}
 use Rattle.convoy_certificate.specs.Reading.{IsTextOf}
 use Rattle.convoy_checker.specs.Validity.{IsValid}
 use Rattle.convoy_commands.specs.declared.done.Done.{Done}
-use Rattle.convoy_commands.specs.declared.done.Done.TheVariants.{Fine, Open, Beyond, Faulty, Refused, PlanRefused, Differs, Departs, NotChecked}
+use Rattle.convoy_commands.specs.declared.done.Done.TheVariants.{Fine, Open, Beyond, Faulty, Refused, PlanRefused, WorkflowRefused, Differs, Departs, NotChecked}
 use Rattle.convoy_commands.specs.declared.fault.Fault.{Fault}
 use Rattle.convoy_commands.specs.declared.asking.Asking.TheVariants.{Check}
 use Rattle.convoy_commands.specs.Asks.{AskSays}
 use Rattle.convoy_commands.specs.Checks.{IsAccepted}
 use Rattle.convoy_commands.specs.ReplyLines.{accepted_line}
 use Rattle.convoy_scenario.specs.declared.part.Part.{Part}
-use Rattle.convoy_scenario.specs.declared.part.Part.TheVariants.{Time, Tick, Delay, Groups, Links, Multicasts, Target}
+use Rattle.convoy_scenario.specs.declared.part.Part.TheVariants.{Time, Tick, Delay, Groups, Places, Links, Multicasts, Target}
 use Rattle.convoy_text_answers.specs.Abouts.{IsAcceptedAbout, IsAcceptedAs, IsOfAnother, IsUnwanted, IsWanted}
 use Rattle.convoy_text_answers.specs.CheckLaws.{YesIsGiven, YesIsGreatest}
 use Rattle.convoy_text_answers.specs.AcceptedLines.{differs_line, told_if}
@@ -100,6 +100,7 @@ agree_with_itself scenario Time = refl
 agree_with_itself scenario Tick = refl
 agree_with_itself scenario Delay = refl
 agree_with_itself scenario Groups = refl
+agree_with_itself scenario Places = refl
 agree_with_itself scenario Links = refl
 agree_with_itself scenario Multicasts = refl
 agree_with_itself scenario Target = (refl, refl)
@@ -126,6 +127,8 @@ yes_is_given differ certificate tells unit text (Refused refusal) out is spelled
     absurd (no_yes certificate text out (Refused refusal) (λ is. cc) is spelled valid said)
 yes_is_given differ certificate tells unit text PlanRefused out is spelled valid said =
     absurd (no_yes certificate text out PlanRefused (λ is. cc) is spelled valid said)
+yes_is_given differ certificate tells unit text WorkflowRefused out is spelled valid said =
+    absurd (no_yes certificate text out WorkflowRefused (λ is. cc) is spelled valid said)
 yes_is_given differ certificate tells unit text Departs out is spelled valid said =
     absurd (no_yes certificate text out Departs (λ is. cc) is spelled valid said)
 yes_is_given differ certificate tells unit text NotChecked out is spelled valid said =

@@ -15,7 +15,7 @@ use Rattle.convoy_sim.specs.Stamps.{clocks_of, local_stamp, final_stamp}
 use Rattle.convoy_sim.specs.Delivery.{holds_back, deliver, latency_at, latency_of}
 use Rattle.convoy_scenario.proofs.RowScenarios.{message, of_two, base_with, base, swapped, tied}
 use Rattle.convoy_timeline.specs.Causes.{holder_of, tied_before, last_proposer, explanation_of, moments_stamped, stamp_explained}
-use Rattle.convoy_timeline.specs.Explanations.{answered_text, awaited_text, commit_text, flight_text, holder_text, in_unit_text, issue_text, last_text, latency_text, rise_line, sent_text, stamp_text, text_of, ticks_text, window_text, way_text, with_stamp_text, worst_text}
+use Rattle.convoy_timeline.specs.Explanations.{answered_text, awaited_text, commit_text, flight_text, holder_text, in_unit_text, issue_text, last_text, latency_text, rise_line, sender_text, sent_text, stamp_text, text_of, ticks_text, window_text, way_text, with_stamp_text, worst_text}
 use Rattle.convoy_times.specs.Measures.{told_ticks, fraction, fraction_digits}
 use Rattle.convoy_timeline.specs.PacketLists.{packet_line, packet_text, packets_text, scheduled_packets_text, taken_text}
 
@@ -61,7 +61,7 @@ lone_none = refl
 
 -- a message that comes to a last, so that the last proposal is that of a itself
 late : Scenario
-late = of_two Ticks 3 (message (codes "t") Client (0 ∷ 1 ∷ []) 9 ∷ []) 0 0
+late = of_two Ticks 3 (message (codes "t") (Client 0) (0 ∷ 1 ∷ []) 9 ∷ []) 0 0
 
 late_own : text_of None late (explanation_of late (in_fixed_order (3 ∷ 1 ∷ 1 ∷ 1 ∷ []))) (stamp_explained late (in_fixed_order (3 ∷ 1 ∷ 1 ∷ 1 ∷ []))) 2 ≡
     codes "t at a: at worst 3 ticks, from its issue at tick 9 to its delivery at tick 12" ++ 10 ∷ (
@@ -77,8 +77,8 @@ late_own = refl
 -- the commit of u at a raises the clock there past the stamp that u got as it came
 raised : Scenario
 raised =
-    of_two Ticks 3 (message (codes "x") Client (1 ∷ []) 0 ∷ message (codes "u") Client (0 ∷ 1 ∷ []) 0
-    ∷ message (codes "t") Client (0 ∷ []) 8 ∷ []) 2 0
+    of_two Ticks 3 (message (codes "x") (Client 0) (1 ∷ []) 0 ∷ message (codes "u") (Client 0) (0 ∷ 1 ∷ []) 0
+    ∷ message (codes "t") (Client 0) (0 ∷ []) 8 ∷ []) 2 0
 
 raised_twos : text_of None raised (explanation_of raised (in_fixed_order (replicate 6 2))) (stamp_explained raised (in_fixed_order (replicate 6 2))) 1 ≡
     codes "t at a: at worst 2 ticks, from its issue at tick 8 to its delivery at tick 10" ++ 10 ∷ (
@@ -112,7 +112,7 @@ timed_ones = refl
 -- y may wait up to eight ticks, and holds t back where it is issued at tick 6
 waiting : Scenario
 waiting =
-    of_two Ticks 3 (message (codes "x") Client (1 ∷ []) 0 ∷ message (codes "t") Client (0 ∷ 1 ∷ []) 0
+    of_two Ticks 3 (message (codes "x") (Client 0) (1 ∷ []) 0 ∷ message (codes "t") (Client 0) (0 ∷ 1 ∷ []) 0
     ∷ record (message (codes "y") (Group 0) (0 ∷ 1 ∷ []) 2) { longest_wait = 8 } ∷ []) 1 0
 
 waits_four : text_of None waiting (explanation_of waiting (in_fixed_order (3 ∷ 3 ∷ 3 ∷ 3 ∷ 3 ∷ 4 ∷ 3 ∷ 3 ∷ 3 ∷ []))) (stamp_explained waiting (in_fixed_order (3 ∷ 3 ∷ 3 ∷ 3 ∷ 3 ∷ 4 ∷ 3 ∷ 3 ∷ 3 ∷ []))) 1 ≡
@@ -165,3 +165,10 @@ waiting_packets : scheduled_packets_text waiting (in_fixed_order (3 ∷ 3 ∷ 3 
     codes "packet 8: proposal of y from b to a, 1 to 3 ticks, takes 3" ++ 10 ∷ ([])))))))))
 unfolding waiting message packets_of digits packet_line packet_text scheduled_packets_text taken_text
 waiting_packets = refl
+
+-- a client at a place, and one at none that has a name
+at_place : sender_text (record linked { places = codes "eu" ∷ codes "us" ∷ [] }) (Client 2) ≡ codes "a client at us"
+at_place = refl
+
+at_none : sender_text linked (Client 0) ≡ codes "a client"
+at_none = refl

@@ -32,8 +32,8 @@ timed_ones = refl
 -- t waits at a for y, and the two are delivered there in one tick, in the order of their final stamps
 held_back : Scenario
 held_back =
-    of_two Ticks 1 (message (codes "x") Client (1 ∷ []) 0 ∷ message (codes "y") (Group 0) (0 ∷ 1 ∷ []) 2
-    ∷ message (codes "t") Client (0 ∷ 1 ∷ []) 0 ∷ []) 2 0
+    of_two Ticks 1 (message (codes "x") (Client 0) (1 ∷ []) 0 ∷ message (codes "y") (Group 0) (0 ∷ 1 ∷ []) 2
+    ∷ message (codes "t") (Client 0) (0 ∷ 1 ∷ []) 0 ∷ []) 2 0
 
 held_back_ones : timeline_text held_back (in_fixed_order (replicate 8 1)) ≡
     codes "1 b propose x 1.b" ++ 10 ∷ (codes "1 a propose t 1.a" ++ 10 ∷ (codes "1 b propose t 2.b" ++ 10 ∷
@@ -47,9 +47,9 @@ held_back_ones = refl
 -- y may be issued from tick 4 on, and is at tick 6, and z from tick 0 on, and is at tick 1, before what happens then
 waiting : Scenario
 waiting =
-    of_two Ticks 1 (message (codes "t") Client (0 ∷ 1 ∷ []) 0
+    of_two Ticks 1 (message (codes "t") (Client 0) (0 ∷ 1 ∷ []) 0
     ∷ record (message (codes "y") (Group 0) (0 ∷ 1 ∷ []) 4) { longest_wait = 3 }
-    ∷ record (message (codes "z") Client (1 ∷ []) 0) { longest_wait = 9 } ∷ []) 0 0
+    ∷ record (message (codes "z") (Client 0) (1 ∷ []) 0) { longest_wait = 9 } ∷ []) 0 0
 
 waits : timeline_text waiting (in_fixed_order (1 ∷ 1 ∷ 1 ∷ 1 ∷ 2 ∷ 1 ∷ 1 ∷ 1 ∷ 1 ∷ 1 ∷ [])) ≡
     codes "1 client issue z" ++ 10 ∷ (codes "1 a propose t 1.a" ++ 10 ∷ (codes "1 b propose t 1.b" ++ 10 ∷

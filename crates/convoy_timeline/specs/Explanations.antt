@@ -3,7 +3,7 @@ use Rattle.std.specs.Prelude.{ℕ, ◌-◌, ◌==◌, ◌&&◌, not, nat_lt, Lis
 use Rattle.std.specs.List.{flat_map}
 use Rattle.convoy_scenario.specs.declared.sender.Sender.{Sender}
 use Rattle.convoy_scenario.specs.declared.sender.Sender.TheVariants.{Client, Group}
-use Rattle.convoy_scenario.specs.Scenario.{Scenario, message_at, may_wait, window_of, group_name_at}
+use Rattle.convoy_scenario.specs.Scenario.{Scenario, message_at, may_wait, window_of, group_name_at, place_name_at}
 use Rattle.convoy_draft.specs.Durations.{unit_word}
 use Rattle.convoy_times.specs.Measures.{told_ticks}
 use Rattle.convoy_times.specs.declared.measure.Measure.{Measure}
@@ -38,9 +38,9 @@ stamp_text scenario stamp = decimal stamp.time ++ 46 ∷ group_name_at scenario 
 abbrev pub message_name_at : Scenario → ℕ → List ℕ
 message_name_at scenario m = (message_at scenario m).name
 
--- who sends a message
+-- who sends a message: a client, with its place where that has a name, or a group
 abbrev pub sender_text : Scenario → Sender → List ℕ
-sender_text scenario Client = codes "a client"
+sender_text scenario (Client p) = if p == 0 then codes "a client" else (codes "a client at " ++ place_name_at scenario p)
 sender_text scenario (Group g) = group_name_at scenario g
 
 -- from when to when message m may be issued

@@ -10,7 +10,7 @@ pub use packet_list::{write_packets, write_scheduled_packets};
 pub use rises::explain_stamp;
 pub use telling::{ticks_text, window_text, write_explanation};
 pub use timeline::{entries_of, write_timeline};
-pub use words::{sender_name, stamp_text, tick_word};
+pub use words::{sender_text, stamp_text, tick_word};
 
 mod entry;
 mod explaining;

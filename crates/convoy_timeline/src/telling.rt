@@ -7,7 +7,7 @@ ghost use Rattle.convoy_timeline.specs.Explanations.{in_unit_text, issue_text, t
 ghost use Rattle.convoy_timeline.specs.Explanations.{target_window_text, tied_text, wait_text, way_text, window_text, worst_text};
 
 use super::explanation::{Explanation, Flight, Holder, LastProposal, Rise};
-use super::words::{sender_name, stamp_text, tick_word};
+use super::words::{sender_text, stamp_text, tick_word};
 use convoy_scenario::lookup::{may_wait, sender_of, window};
 use convoy_scenario::naming::{group_name, message_name};
 use convoy_scenario::{AllocResult, Scenario, Time};
@@ -252,7 +252,7 @@ fn issue_line(alloc: Global, scenario: &Scenario, last: &LastProposal) -> AllocR
     ensures { IfOk result (λ line. string_bytes line ≡ issue_text scenario.now last.now) }
 {
     let window = window_text(alloc, scenario, last.message)?;
-    let sender = sender_name(scenario, sender_of(scenario, last.message));
+    let sender = sender_text(alloc, scenario, sender_of(scenario, last.message))?;
     format!(in alloc;
         "{window}: here {sender} issues it at tick {}\n",
         last.issued
@@ -292,7 +292,7 @@ fn flown_line(
 {
     let tick = last.issued;
     let gap = gap_after(tick);
-    let sender = sender_name(scenario, sender_of(scenario, last.message));
+    let sender = sender_text(alloc, scenario, sender_of(scenario, last.message))?;
     let message = message_name(scenario, last.message);
     let to = group_name(scenario, last.from);
     let flight = flight_text(alloc, flight)?;

@@ -39,7 +39,7 @@ one members = item (table members) no_items
 
 -- what goes by no link takes 1 to 3 ticks, and the replicas of a need 2 to 4
 filled_in : links_read (of_both (one (group_table (codes "a") 2 4 no_members)) no_members) ≡ Ok (
-  record { sender = Client; to = 0; least = 3; most = 7; stamps = false } ∷ record { sender = Client; to = 1; least = 1; most = 3; stamps = false }
+  record { sender = Client 0; to = 0; least = 3; most = 7; stamps = false } ∷ record { sender = Client 0; to = 1; least = 1; most = 3; stamps = false }
       ∷ record { sender = Group 0; to = 0; least = 2; most = 4; stamps = false } ∷ record { sender = Group 0; to = 1; least = 1; most = 3; stamps = false }
       ∷ record { sender = Group 1; to = 0; least = 3; most = 7; stamps = false } ∷ [],
   7,
@@ -49,7 +49,7 @@ filled_in = refl
 
 -- where they agree twice, the stamps of a group to itself take that long, too
 agreeing_twice : links_read (of_both (one (group_table (codes "a") 2 4 twice)) no_members) ≡ Ok (
-  record { sender = Client; to = 0; least = 3; most = 7; stamps = false } ∷ record { sender = Client; to = 1; least = 1; most = 3; stamps = false }
+  record { sender = Client 0; to = 0; least = 3; most = 7; stamps = false } ∷ record { sender = Client 0; to = 1; least = 1; most = 3; stamps = false }
       ∷ record { sender = Group 0; to = 0; least = 2; most = 4; stamps = true } ∷ record { sender = Group 0; to = 1; least = 1; most = 3; stamps = false }
       ∷ record { sender = Group 1; to = 0; least = 3; most = 7; stamps = false } ∷ [],
   7,
@@ -63,7 +63,7 @@ link_table from least most = member (codes "link") (array (one (member (codes "l
 
 -- a link that is written takes what it says and the agreement
 over_link : links_read (of_both (one (group_table (codes "a") 2 4 no_members)) (link_table no_members 2 2)) ≡ Ok (
-  record { sender = Client; to = 0; least = 4; most = 6; stamps = false } ∷ record { sender = Client; to = 1; least = 1; most = 3; stamps = false }
+  record { sender = Client 0; to = 0; least = 4; most = 6; stamps = false } ∷ record { sender = Client 0; to = 1; least = 1; most = 3; stamps = false }
       ∷ record { sender = Group 0; to = 0; least = 2; most = 4; stamps = false } ∷ record { sender = Group 0; to = 1; least = 1; most = 3; stamps = false }
       ∷ record { sender = Group 1; to = 0; least = 3; most = 7; stamps = false } ∷ [],
   7,

@@ -7,7 +7,7 @@ use Rattle.std.proofs.lemmas.List.Folds.{list_any-append}
 use Rattle.convoy_draft.specs.declared.fault.Limit.TheVariants.{Agree, Delay, Link}
 use Rattle.convoy_draft.specs.declared.fault.ScenarioFault.{ScenarioFault}
 use Rattle.convoy_draft.specs.declared.fault.ScenarioFault.TheVariants.{OverLimit}
-use Rattle.convoy_draft.specs.declared.limits.TheConstants.{GREATEST_DELAY, GREATEST_WHOLE_DELAY, MOST_GROUPS}
+use Rattle.convoy_draft.specs.declared.limits.TheConstants.{GREATEST_DELAY, GREATEST_WHOLE_DELAY, MOST_GROUPS, MOST_PLACES}
 use Rattle.convoy_draft.specs.declared.time.Time.{Time}
 use Rattle.convoy_draft.specs.declared.time.Time.TheVariants.{Ticks, Real}
 use Rattle.convoy_draft.specs.Checks.{Check, has_range, is_among, is_named_alike, is_within, judge, leads_elsewhere, ticks}
@@ -212,7 +212,7 @@ filled_finer : (times : ℕ) (tick : Option ℕ) (least : Option ℤ) (draft : D
 filled_finer times tick None draft = refl
 filled_finer times tick (Some least) draft =
     ap (λ ls. record (finer_draft times tick draft) { links = ls })
-    (ap (λ ways. map (finer_link times) draft.links ++ map (link_along (finer_ticks times least) (finer_ticks times draft.delay)) ways) (lacks_finer times draft.messages draft.links (ways_between (take MOST_GROUPS draft.groups)))
+    (ap (λ ways. map (finer_link times) draft.links ++ map (link_along (finer_ticks times least) (finer_ticks times draft.delay)) ways) (lacks_finer times draft.messages draft.links (ways_between (take MOST_GROUPS draft.groups) (take MOST_PLACES draft.places)))
     ∙ ap (λ ls. map (finer_link times) draft.links ++ ls) (along_finer times least draft.delay (ways_without_link draft))
     ∙ sym (map-append (finer_link times) draft.links (map (link_along least draft.delay) (ways_without_link draft))))
 
@@ -293,7 +293,7 @@ module _ (agreements : List Agreement) (least : ℤ) (draft : Draft) where
   -- once what goes by no link has links, no way is left
   all_led : ways_without_link (agreed agreements (filled_by (Some least) draft)) ≡ []
   all_led =
-      none_left draft.messages draft.links more least draft.delay (ways_between (take MOST_GROUPS draft.groups))
+      none_left draft.messages draft.links more least draft.delay (ways_between (take MOST_GROUPS draft.groups) (take MOST_PLACES draft.places))
       (λ way e. led way (list_any-append (leads_along way) draft.links added ∙ or_some (list_any (leads_along way) draft.links) (list_any (leads_along way) added) e))
       (λ way e. led way (list_any-append (leads_along way) draft.links added ∙ or_other (list_any (leads_along way) draft.links) (list_any (leads_along way) added) e))
 

@@ -184,6 +184,7 @@ plain_draft written tick delay links messages = record {
   tick = tick;
   delay = delay;
   groups = written.groups;
+  places = written.places;
   links = links;
   messages = messages;
   target_message = written.target_message;

@@ -2,6 +2,7 @@ mod Rows
 mod LinkRows
 mod ShareRows
 mod AgreementRows
+mod PlaceRows
 pub mod KeyLemmas
 pub mod GivenTexts
 pub mod SaidTargets

@@ -41,7 +41,7 @@ scenario_of_table members = scenario_of_input (input_of_table as_written members
 -- these groups, and one message of a client to the group of that number, at which its latency is asked
 abbrev lone : List (List ℕ) → ℕ → Scenario
 lone groups group =
-    record (of_two Ticks 3 (record { name = codes "t"; sender = Client; destinations = group ∷ []; at = 0; longest_wait = 0 } ∷ []) 0 group) {
+    record (of_two Ticks 3 (record { name = codes "t"; sender = Client 0; destinations = group ∷ []; at = 0; longest_wait = 0 } ∷ []) 0 group) {
       groups = groups;
     }
 
@@ -157,7 +157,7 @@ stamps_of_itself = refl
 
 -- a link to another place is for no stamps of its sender to itself
 stamps_from_clients : linked (string (codes "a")) (member (codes "stamps") (boolean true) no_members)
-    ≡ Ok (record (lone (codes "a" ∷ []) 0) { links = record { sender = Client; to = 0; least = 1; most = 2; stamps = false } ∷ [] })
+    ≡ Ok (record (lone (codes "a" ∷ []) 0) { links = record { sender = Client 0; to = 0; least = 1; most = 2; stamps = false } ∷ [] })
 unfolding link_of_table
 stamps_from_clients = refl
 
@@ -237,7 +237,7 @@ links_read members = scenario_of_table members >>= λ scenario. Ok scenario.link
 
 -- from clients to the first group, with this range
 abbrev from_clients : ℕ → ℕ → Link
-from_clients least most = record { sender = Client; to = 0; least = least; most = most; stamps = false }
+from_clients least most = record { sender = Client 0; to = 0; least = least; most = most; stamps = false }
 
 least_of_all : links_read (least_of (integer (pos 2)) (timed (string (codes "real")))) ≡ Ok (from_clients 2 3 ∷ [])
 least_of_all = refl

@@ -1,4 +1,4 @@
--- The links that a table writes: one from each place that sends to each group that they lead to, and perhaps the ways back.
+-- The links that a table writes: one from each that sends to each group that they lead to, and perhaps the ways back.
 use Rattle.std.specs.Prelude.{ℕ, ◌*◌, nat_le, if◌then◌else◌, Bool, ℤ, List, [], ◌++◌, map, flat_map, filter, length, sum_by, Option, Some, None, option_map, unwrap_or, Result, Ok, Err}
 use Rattle.std.specs.List.{list_any}
 use Rattle.convoy_draft.specs.declared.fault.Limit.TheVariants.{Link}
@@ -20,20 +20,20 @@ pub record Bundle : Type 0 where
 abbrev pub link_in : Bundle → Option (List ℕ) → List ℕ → DraftLink
 link_in bundle sender to = record { sender = sender; to = to; least = bundle.least; most = bundle.most; stamps = bundle.stamps }
 
--- links from one place to each of the groups
+-- links from one sender to each of the groups
 abbrev pub links_from : Bundle → Option (List ℕ) → List (List ℕ) → List DraftLink
 links_from bundle sender to = map (link_in bundle sender) to
 
--- links from each of the groups to each of the others, sender by sender
+-- links from each of these to each of the groups, sender by sender
 abbrev pub links_between : Bundle → List (List ℕ) → List (List ℕ) → List DraftLink
 links_between bundle senders to = flat_map (λ sender. links_from bundle (Some sender) to) senders
 
--- the links of a bundle in order: the ways there, and where both are asked for the ways back; clients have no ways back
+-- the links of a bundle in order: the ways there, and where both are asked for the ways back; clients that are not named have no ways back
 abbrev pub ways_of : Bundle → List DraftLink
 ways_of bundle = by_senders bundle.ends.senders where
   by_senders : Option (List (List ℕ)) → List DraftLink
   by_senders None = links_from bundle None bundle.ends.to
-  by_senders (Some groups) = links_between bundle groups bundle.ends.to ++ (if bundle.ends.both then links_between bundle bundle.ends.to groups else [])
+  by_senders (Some senders) = links_between bundle senders bundle.ends.to ++ (if bundle.ends.both then links_between bundle bundle.ends.to senders else [])
 
 -- links without those from a group to itself, unless there are no others
 abbrev pub apart : List DraftLink → List DraftLink

@@ -11,7 +11,7 @@ use Rattle.std.specs.Str.{bytes_eq}
 use Rattle.toml.specs.Data.{Data, Items, no_items, item, Members, no_members, member, get_member, as_str, as_integer, as_bool, as_array, as_table}
 use Rattle.convoy_lines.specs.Results.{◌>>=◌}
 use Rattle.convoy_draft.specs.declared.fault.Key.{Key}
-use Rattle.convoy_draft.specs.declared.fault.Key.TheVariants.{Time, Tick, Delay, Groups, Multicast, Name, From, To, At, Until, Within, Target, Message, Group, Link, Least, Most, Both, Stamps, Agree, Steps, Schedule, Order, Unknown}
+use Rattle.convoy_draft.specs.declared.fault.Key.TheVariants.{Time, Tick, Delay, Groups, Places, Multicast, Name, From, To, At, Until, Within, Target, Message, Group, Link, Least, Most, Both, Stamps, Agree, Steps, Schedule, Order, Unknown}
 use Rattle.convoy_draft.specs.declared.fault.ScenarioFault.{ScenarioFault}
 use Rattle.convoy_draft.specs.declared.fault.ScenarioFault.TheVariants.{Shape}
 use Rattle.convoy_draft.specs.declared.time.Time.{Time as AnyTime}
@@ -25,7 +25,7 @@ use Rattle.convoy_toml.specs.declared.written.WrittenTime.{WrittenTime}
 use Rattle.convoy_toml.specs.declared.written.WrittenTime.TheVariants.{Count, Lasting}
 use Rattle.convoy_toml.specs.Shares.{as_share, outside_word}
 
--- a message as it is written: its name, the group that sends it (none for a client), the groups that it goes to, the first time at which it may be issued, and the last where that is written, and its deadline where it has one
+-- a message as it is written: its name, the group that sends it or the place of the client that does (none for a client of no named place), the groups that it goes to, the first time at which it may be issued, and the last where that is written, and its deadline where it has one
 pub record WrittenMessage : Type 0 where
   pub name : List ℕ
   pub sender : Option (List ℕ)
@@ -34,7 +34,7 @@ pub record WrittenMessage : Type 0 where
   pub until : Option WrittenTime
   pub within : Option WrittenTime
 
--- where the links of a table lead: from the groups that send (none where the clients do) to these groups, and perhaps back as well
+-- where the links of a table lead: from the groups and places that send (none where the clients of no named place do) to these groups, and perhaps back as well
 pub record LinkEnds : Type 0 where
   pub senders : Option (List (List ℕ))
   pub to : List (List ℕ)
@@ -66,6 +66,7 @@ pub record WrittenScenario : Type 0 where
   pub delay : Option WrittenTime
   pub least : Option WrittenTime
   pub groups : List (List ℕ)
+  pub places : List (List ℕ)
   pub links : List WrittenLink
   pub agreements : List WrittenAgreement
   pub messages : List WrittenMessage
@@ -175,13 +176,13 @@ names_in items = option_and_then filled (all_of as_str items)
 abbrev pub as_names : Data → Option (List (List ℕ))
 as_names value = option_or (option_map (λ name. name ∷ []) (as_str value)) (option_and_then names_in (as_array value))
 
--- whether links lead back as well: only where groups send, since nothing is sent to clients
+-- whether links lead back as well: only where it is named who sends, since nothing is sent to other clients
 abbrev pub as_both : Bool → Data → Option Bool
-as_both groups_send value = option_and_then (λ both. if both && not groups_send then None else Some both) (as_bool value)
+as_both named_send value = option_and_then (λ both. if both && not named_send then None else Some both) (as_bool value)
 
 -- whether the links of a table lead back as well; they do not where the key is absent
 abbrev pub both_of_table : Bool → Members → Result Bool ScenarioFault
-both_of_table groups_send table = wish Both (as_both groups_send) table >>= λ both. Ok (unwrap_or both false)
+both_of_table named_send table = wish Both (as_both named_send) table >>= λ both. Ok (unwrap_or both false)
 
 -- where the links of a table lead
 abbrev pub ends_of_table : Members → Result LinkEnds ScenarioFault
@@ -312,6 +313,10 @@ target_of_table Optional table groups messages =
     if is_some (get_member (key_word Target) table) then written_target table else Ok (first_target groups messages)
 target_of_table (Named message group) table groups messages = Ok (record { message = message; group = group })
 
+-- the places of clients in a scenario's table; none where the key is absent
+abbrev pub places_of_table : Members → Result (List (List ℕ)) ScenarioFault
+places_of_table table = wish_all Places as_str table >>= λ places. Ok (unwrap_or places [])
+
 -- the scenario as it is written, but for what the replicas of groups need to agree, whatever else stands in the table
 abbrev pub scenario_of_table : TargetKey → Members → Result WrittenScenario ScenarioFault
 scenario_of_table key table = do
@@ -320,13 +325,14 @@ scenario_of_table key table = do
   delay ← delay_of_table time table
   least ← wish Least (as_least time) table
   groups ← need_all Groups as_str table
+  places ← places_of_table table
   tables ← need_all Multicast as_table table
   messages ← messages_of time tables
   target ← target_of_table key table groups messages
   links ← links_of_table time table
-  Ok (record { time = time; tick = tick; delay = delay; least = least; groups = groups; links = links; agreements = []; messages = messages; target_message = target.message; target_group = target.group })
+  Ok (record { time = time; tick = tick; delay = delay; least = least; groups = groups; places = places; links = links; agreements = []; messages = messages; target_message = target.message; target_group = target.group })
 
--- what a table writes beside messages and a target, whatever else stands there: how time goes, the length of a tick, D, the least delay of what goes by no link, the groups, the links, and what the replicas of groups need to agree
+-- what a table writes beside messages and a target, whatever else stands there: how time goes, the length of a tick, D, the least delay of what goes by no link, the groups, the places of clients, the links, and what the replicas of groups need to agree
 abbrev pub setting_of_table : Members → Result WrittenScenario ScenarioFault
 setting_of_table table = do
   time ← time_of_table table
@@ -334,9 +340,10 @@ setting_of_table table = do
   delay ← delay_of_table time table
   least ← wish Least (as_least time) table
   groups ← need_all Groups as_str table
+  places ← places_of_table table
   links ← links_of_table time table
   agreements ← agreements_of_table time table
-  Ok (record { time = time; tick = tick; delay = delay; least = least; groups = groups; links = links; agreements = agreements; messages = []; target_message = []; target_group = [] })
+  Ok (record { time = time; tick = tick; delay = delay; least = least; groups = groups; places = places; links = links; agreements = agreements; messages = []; target_message = []; target_group = [] })
 
 -- what is written in a scenario's table: the scenario, and the delays of a schedule and the ranks of its moments where they are given
 pub record Written : Type 0 where
@@ -351,7 +358,7 @@ written_of_table key table = do
   agreements ← agreements_of_table scenario.time table
   schedule ← wish_all Schedule as_integer table
   order ← wish_all Order as_integer table
-  _ ← need_only (Time ∷ Tick ∷ Delay ∷ Least ∷ Groups ∷ Multicast ∷ Target ∷ Link ∷ Group ∷ Schedule ∷ Order ∷ []) table
+  _ ← need_only (Time ∷ Tick ∷ Delay ∷ Least ∷ Groups ∷ Places ∷ Multicast ∷ Target ∷ Link ∷ Group ∷ Schedule ∷ Order ∷ []) table
   Ok (record { scenario = record scenario { agreements = agreements }; schedule = schedule; order = order })
 
 -- the unit in which a value tells a duration

@@ -180,4 +180,4 @@ draft_of_written scenario = do
   agreements ← agreements_of tick scenario.agreements
   links ← links_of_bundles bundles
   _ ← need_least scenario.time (delay_or_greatest written bundles) least
-  with_agreements least agreements (record { time = scenario.time; tick = tick; delay = delay_or_greatest written bundles; groups = scenario.groups; links = links; messages = messages; target_message = scenario.target_message; target_group = scenario.target_group })
+  with_agreements least agreements (record { time = scenario.time; tick = tick; delay = delay_or_greatest written bundles; groups = scenario.groups; places = scenario.places; links = links; messages = messages; target_message = scenario.target_message; target_group = scenario.target_group })

@@ -83,10 +83,10 @@ fn ways_of(alloc: Global, bundle: &Bundle) -> Result<Vec<DraftLink>, AllocError>
 {
     let mut links = Vec::new(alloc);
     match &bundle.ends.senders {
-        Some(groups) => {
-            push_between(&mut links, bundle, groups, &bundle.ends.to)?;
+        Some(senders) => {
+            push_between(&mut links, bundle, senders, &bundle.ends.to)?;
             if bundle.ends.both {
-                push_between(&mut links, bundle, &bundle.ends.to, groups)?;
+                push_between(&mut links, bundle, &bundle.ends.to, senders)?;
             }
         }
         None => push_from(&mut links, bundle, None, &bundle.ends.to)?,
@@ -94,7 +94,7 @@ fn ways_of(alloc: Global, bundle: &Bundle) -> Result<Vec<DraftLink>, AllocError>
     Ok(links)
 }
 
-/// Appends links from each of the groups to each of the others, sender by sender.
+/// Appends links from each of these to each of the groups, sender by sender.
 fn push_between(
     links: &mut Vec<DraftLink>,
     bundle: &Bundle,
@@ -110,7 +110,7 @@ fn push_between(
     Ok(())
 }
 
-/// Appends links from one place to each of the groups.
+/// Appends links from one sender to each of the groups.
 fn push_from(
     links: &mut Vec<DraftLink>,
     bundle: &Bundle,

@@ -7,7 +7,7 @@ ghost use Rattle.toml.specs.View.{view, array_view, table_view};
 ghost use Rattle.convoy_draft.specs.Keys.{key_word};
 ghost use Rattle.convoy_scenario.specs.Memory.{IsUnlessMemory};
 ghost use Rattle.convoy_toml.specs.Shares.{outside_word};
-ghost use Rattle.convoy_toml.specs.Shape.{all_of, as_duration, as_when, as_tick, as_least, needs_delay, delay_of_table, need, need_all, wish, wish_all, names_in, as_names, as_both, both_of_table, ends_of_table, has_link_words, has_only, is_link_word, need_link_words, need_only, share_of_table, time_of_table, message_of_table, messages_of, link_of_table, links_of, links_of_table, written_target, target_of_table, scenario_of_table, setting_of_table, written_of_table, listed, listed_if_there, tables_listed, stamps_of_table, unit_in, unit_of_table};
+ghost use Rattle.convoy_toml.specs.Shape.{all_of, as_duration, as_when, as_tick, as_least, needs_delay, delay_of_table, need, need_all, wish, wish_all, names_in, as_names, as_both, both_of_table, ends_of_table, has_link_words, has_only, is_link_word, need_link_words, need_only, share_of_table, time_of_table, message_of_table, messages_of, link_of_table, links_of, links_of_table, places_of_table, written_target, target_of_table, scenario_of_table, setting_of_table, written_of_table, listed, listed_if_there, tables_listed, stamps_of_table, unit_in, unit_of_table};
 
 use super::group_tables::agreements_of_table;
 use super::placed::{Placed, ScenarioTable, in_table};
@@ -384,7 +384,7 @@ pub(crate) fn names_told(alloc: Global, value: &Value, key: Key) -> Result<Vec<N
     }
 }
 
-/// The groups from which the links of a table lead, or none where they lead from the clients.
+/// The groups and places from which the links of a table lead, or none where clients of no named place send.
 fn senders(alloc: Global, table: &Table) -> Result<Option<Vec<Name>>, ScenarioFault>
     ensures { IsUnlessMemory ScenarioFault.Memory
         (wish Key.From as_names (table_view table.now)) (listed_if_there result) }
@@ -404,12 +404,12 @@ fn receivers(alloc: Global, table: &Table) -> Result<Vec<Name>, ScenarioFault>
     names_told(alloc, value, Key::To)
 }
 
-/// Whether links lead back as well: only where groups send, since nothing is sent to clients.
-fn both_told(value: &Value, groups_send: bool) -> Option<bool>
-    ensures { result ≡ as_both groups_send (view value.now) }
+/// Whether links lead back as well: only where it is named who sends, since nothing is sent to other clients.
+fn both_told(value: &Value, named_send: bool) -> Option<bool>
+    ensures { result ≡ as_both named_send (view value.now) }
 {
     let both = value.as_bool()?;
-    if both && !groups_send {
+    if both && !named_send {
         None
     } else {
         Some(both)
@@ -417,11 +417,11 @@ fn both_told(value: &Value, groups_send: bool) -> Option<bool>
 }
 
 /// Whether the links of a table lead back as well; they do not where the key is absent.
-fn both_of_table(table: &Table, groups_send: bool) -> Result<bool, ScenarioFault>
-    ensures { result ≡ both_of_table groups_send (table_view table.now) }
+fn both_of_table(table: &Table, named_send: bool) -> Result<bool, ScenarioFault>
+    ensures { result ≡ both_of_table named_send (table_view table.now) }
 {
     match value_at(table, Key::Both) {
-        Some(value) => both_told(value, groups_send).ok_or(ScenarioFault::Shape(Key::Both)),
+        Some(value) => both_told(value, named_send).ok_or(ScenarioFault::Shape(Key::Both)),
         None => Ok(false),
     }
 }
@@ -540,6 +540,17 @@ fn links_of_table(alloc: Global, table: &Table, time: Time) -> Result<Vec<Writte
     links_of(alloc, &tables, time)
 }
 
+/// The places of clients in a scenario's table; none where the key is absent.
+fn places_of_table(alloc: Global, table: &Table) -> Result<Vec<Name>, ScenarioFault>
+    ensures { IsUnlessMemory ScenarioFault.Memory (places_of_table (table_view table.now)) (listed result) }
+{
+    let Some(value) = value_at(table, Key::Places) else {
+        return Ok(Vec::new(alloc));
+    };
+    let items = value.as_array().ok_or(ScenarioFault::Shape(Key::Places))?;
+    names_of(alloc, items, Key::Places)
+}
+
 /// The target that is written in a scenario's table.
 fn written_target(alloc: Global, table: &Table) -> Result<WrittenTarget, Placed>
     ensures { IsUnlessMemory ScenarioFault.Memory (written_target (table_view table.now)) result }
@@ -598,6 +609,7 @@ pub fn written_of_table(
             Key::Delay,
             Key::Least,
             Key::Groups,
+            Key::Places,
             Key::Multicast,
             Key::Target,
             Key::Link,
@@ -628,6 +640,7 @@ pub fn scenario_of_table(
     let delay = delay_of_table(table, time)?;
     let least = least_of_table(table, time)?;
     let groups = names(alloc, table, Key::Groups)?;
+    let places = places_of_table(alloc, table)?;
     let tables = tables(alloc, table, Key::Multicast)?;
     let multicasts = multicasts_of(alloc, &tables, time)?;
     let target = target_of_table(alloc, table, target, &groups, &multicasts)?;
@@ -638,6 +651,7 @@ pub fn scenario_of_table(
         delay,
         least,
         groups,
+        places,
         links,
         agreements: Vec::new(alloc),
         multicasts,
@@ -646,9 +660,10 @@ pub fn scenario_of_table(
     })
 }
 
-/// What a table writes beside messages and a target, whatever else stands there: how time goes, the length of a tick, D, the
-/// least delay of what goes by no link, the groups, the links, and what the replicas of groups need to agree. A faulty one has
-/// the first fault of its shape, with the table that it is of; and `ScenarioFault::Memory` where memory runs out.
+/// What a table writes beside messages and a target, whatever else stands there: how time goes, the length of a tick, D,
+/// the least delay of what goes by no link, the groups, the places of clients, the links, and what the replicas of groups
+/// need to agree. A faulty one has the first fault of its shape, with the table that it is of; and `ScenarioFault::Memory`
+/// where memory runs out.
 pub fn setting_of_table(alloc: Global, table: &Table) -> Result<WrittenScenario, Placed>
     ensures { IsUnlessMemory ScenarioFault.Memory (setting_of_table (table_view table.now)) result }
 {
@@ -657,6 +672,7 @@ pub fn setting_of_table(alloc: Global, table: &Table) -> Result<WrittenScenario,
     let delay = delay_of_table(table, time)?;
     let least = least_of_table(table, time)?;
     let groups = names(alloc, table, Key::Groups)?;
+    let places = places_of_table(alloc, table)?;
     let links = links_of_table(alloc, table, time)?;
     let agreements = agreements_of_table(alloc, table, time)?;
     Ok(WrittenScenario {
@@ -665,6 +681,7 @@ pub fn setting_of_table(alloc: Global, table: &Table) -> Result<WrittenScenario,
         delay,
         least,
         groups,
+        places,
         links,
         agreements,
         multicasts: Vec::new(alloc),

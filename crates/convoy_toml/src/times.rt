@@ -395,13 +395,14 @@ fn draft_in_ticks(
     multicasts: Vec<DraftMulticast>,
 ) -> Result<DraftScenario, AllocError>
     ensures { IfOk result (λ draft. draft
-        ≡ (record { time = scenario.now.time; tick = tick; delay = delay; groups = scenario.now.groups; links = links.items; messages = multicasts.items; target_message = scenario.now.target_message; target_group = scenario.now.target_group })) }
+        ≡ (record { time = scenario.now.time; tick = tick; delay = delay; groups = scenario.now.groups; places = scenario.now.places; links = links.items; messages = multicasts.items; target_message = scenario.now.target_message; target_group = scenario.now.target_group })) }
 {
     Ok(DraftScenario {
         time: scenario.time,
         tick,
         delay,
         groups: copy_names(alloc, &scenario.groups)?,
+        places: copy_names(alloc, &scenario.places)?,
         links,
         multicasts,
         target_message: scenario.target_message.copy()?,

@@ -1,21 +1,21 @@
 ghost use Rattle.std.specs.Prelude.{◌≡◌, ◌++◌, ◌&&◌, not, map, filter, take, option_map, Some, IfOk, OnOk};
 ghost use Rattle.std.specs.List.{list_any};
-ghost use Rattle.convoy_draft.specs.declared.limits.TheConstants.{MOST_GROUPS};
+ghost use Rattle.convoy_draft.specs.declared.limits.TheConstants.{MOST_GROUPS, MOST_PLACES};
 ghost use Rattle.convoy_draft.specs.Checks.{is_named_alike};
 ghost use Rattle.convoy_toml.specs.Agreements.{filled_by};
-ghost use Rattle.convoy_toml.specs.Ways.{carries, has_ranges, is_one_of, lacks_link, leads_along, link_along, ways_between, ways_from, ways_without_link, with_least};
+ghost use Rattle.convoy_toml.specs.Ways.{carries, has_ranges, is_one_of, lacks_link, leads_along, link_along, ways_between, ways_from, ways_from_all, ways_without_link, with_least};
 
 use super::links::copy_sender;
 use convoy_scenario::{
-    DraftLink, DraftMulticast, DraftScenario, MOST_GROUPS, Name, Time, is_named_alike,
+    DraftLink, DraftMulticast, DraftScenario, MOST_GROUPS, MOST_PLACES, Name, Time, is_named_alike,
 };
 use std::alloc::{AllocError, Global};
 use std::marker::Model;
 
-/// A way from one place to a group.
+/// A way from a sender to a group.
 #[derive(Drop)]
 pub struct Way {
-    /// The group that sends, or none where a client does.
+    /// The group that sends, or the place of the clients that do; none for clients of no named place.
     pub sender: Option<Name>,
     /// The group that receives.
     pub to: Name,
@@ -30,11 +30,13 @@ impl Model for Way {
 }
 
 /// The ways on which something goes without a link, a message or the stamp that one of its groups sends another:
-/// those of clients first, and then by sender and receiver, in the order of the groups.
+/// those of clients first, by their places, and then those of groups, and by receiver, in the order of the groups.
 pub fn ways_without_link(alloc: Global, draft: &DraftScenario) -> Result<Vec<Way>, AllocError>
     ensures { IfOk result (λ ways. ways.items ≡ ways_without_link draft.now) }
 {
-    let mut ways = ways_between(alloc, first_groups(&draft.groups))?;
+    let groups = first_names(&draft.groups, MOST_GROUPS);
+    let places = first_names(&draft.places, MOST_PLACES);
+    let mut ways = ways_between(alloc, groups, places)?;
     keep_without_link(&mut ways, &draft.multicasts, &draft.links);
     Ok(ways)
 }
@@ -88,11 +90,11 @@ pub fn has_ranges(alloc: Global, has_least: bool, draft: &DraftScenario) -> Resu
     }
 }
 
-/// As many of the groups as a scenario may have: where there are more, it is none.
-fn first_groups(groups: &[Name]) -> &[Name]
-    ensures { result.now ≡ take MOST_GROUPS groups.now }
+/// So many of the names at most: a draft with more groups or places than a scenario may have is none of one.
+fn first_names(names: &[Name], most: usize) -> &[Name]
+    ensures { result.now ≡ take most names.now }
 {
-    groups.get(..MOST_GROUPS).unwrap_or(groups)
+    names.get(..most).unwrap_or(names)
 }
 
 /// Keeps the ways on which something goes without a link, and no other.
@@ -123,19 +125,28 @@ fn push_along(
     Ok(())
 }
 
-/// The ways from the clients to each of the groups, and from each group to each.
-fn ways_between(alloc: Global, groups: &[Name]) -> Result<Vec<Way>, AllocError>
-    ensures { IfOk result (λ ways. ways.items ≡ ways_between groups.now) }
+/// The ways to each of the groups: from clients of no named place, from those at each place, and from each group.
+fn ways_between(alloc: Global, groups: &[Name], places: &[Name]) -> Result<Vec<Way>, AllocError>
+    ensures { IfOk result (λ ways. ways.items ≡ ways_between groups.now places.now) }
 {
     let mut ways = Vec::new(alloc);
     push_from(&mut ways, groups, None)?;
-    for sender in groups {
-        push_from(&mut ways, groups, Some(sender))?;
-    }
+    push_from_all(&mut ways, groups, places)?;
+    push_from_all(&mut ways, groups, groups)?;
     Ok(ways)
 }
 
-/// Appends the ways from one place to each of the groups.
+/// Appends the ways from each of these to each of the groups, sender by sender.
+fn push_from_all(ways: &mut Vec<Way>, groups: &[Name], senders: &[Name]) -> Result<(), AllocError>
+    ensures { OnOk result (ways.new.items ≡ ways.old.items ++ ways_from_all groups.now senders.now) }
+{
+    for sender in senders {
+        push_from(ways, groups, Some(sender))?;
+    }
+    Ok(())
+}
+
+/// Appends the ways from one sender to each of the groups.
 fn push_from(ways: &mut Vec<Way>, groups: &[Name], sender: Option<&Name>) -> Result<(), AllocError>
     ensures { OnOk result (ways.new.items
         ≡ ways.old.items ++ ways_from groups.now (option_map (λ name. name.now) sender.entry)) }

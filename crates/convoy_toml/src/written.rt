@@ -15,7 +15,7 @@ pub enum WrittenTime {
 #[derive(Drop)]
 pub struct WrittenMulticast {
     pub name: Name,
-    /// The group that sends it, or none where a client does.
+    /// The group that sends it, or the place of the client that does; none for a client of no named place.
     pub sender: Option<Name>,
     /// The groups that it goes to, in the order in which they are written.
     pub to: Vec<Name>,
@@ -36,11 +36,11 @@ impl Model for WrittenMulticast {
 /// Where the links of a table lead.
 #[derive(Drop)]
 pub struct LinkEnds {
-    /// The groups that send, or none where the clients do.
+    /// The groups and places that send, or none where the clients of no named place do.
     pub senders: Option<Vec<Name>>,
     /// The groups that they lead to.
     pub to: Vec<Name>,
-    /// Whether they lead back as well, which those of clients do not.
+    /// Whether they lead back as well, which those of clients that are not named do not.
     pub both: bool,
 }
 
@@ -118,6 +118,8 @@ pub struct WrittenScenario {
     pub least: Option<WrittenTime>,
     /// The names of the groups, in the order of their numbers.
     pub groups: Vec<Name>,
+    /// The names of the places at which clients are, in the order of their numbers.
+    pub places: Vec<Name>,
     /// The tables of links, in their order.
     pub links: Vec<WrittenLink>,
     /// What the replicas of groups need to agree, in the order of the tables that say so.
@@ -139,6 +141,7 @@ impl Model for WrittenScenario {
       delay = s.delay;
       least = s.least;
       groups = s.groups.items;
+      places = s.places.items;
       links = s.links.items;
       agreements = s.agreements.items;
       messages = s.multicasts.items;

@@ -6,21 +6,20 @@ use Rattle.std.proofs.lemmas.Bool.{cases_Bool}
 use Rattle.std.proofs.lemmas.Fmt.{IsAscii-decimal}
 use Rattle.std.proofs.lemmas.Str.{IsAscii-append}
 use Rattle.std.proofs.lemmas.Str.Ascii.{IsAscii-nil}
-use Rattle.convoy_scenario.specs.declared.sender.Sender.{Sender}
-use Rattle.convoy_scenario.specs.declared.sender.Sender.TheVariants.{Client, Group}
 use Rattle.convoy_draft.specs.declared.time.Time.{Time}
 use Rattle.convoy_draft.specs.declared.time.Time.TheVariants.{Ticks, Real}
 use Rattle.convoy_draft.specs.declared.duration.TimeUnit.{TimeUnit}
 use Rattle.convoy_draft.specs.declared.duration.TimeUnit.TheVariants.{Seconds, Milliseconds, Microseconds, Nanoseconds}
 use Rattle.convoy_draft.specs.Durations.{count_of, unit_of, unit_word}
+use Rattle.convoy_scenario.specs.Naming.{sender_name}
 use Rattle.convoy_scenario.specs.Scenario.{Link, Message, Scenario, group_name_at, may_wait, message_at}
 use Rattle.convoy_packets.specs.Assignment.{Schedule}
 use Rattle.convoy_packets.specs.Order.{Order}
 use Rattle.convoy_packets.specs.OrderLists.{is_no_order, ranks_of}
-use Rattle.convoy_toml_writer.specs.Text.{further, listed, quoted, time_text, least_text, tick_text, order_text, head_text, sender_text, link_text, stamps_text, until_text, message_text, target_text, toml_text}
+use Rattle.convoy_toml_writer.specs.Text.{further, listed, names_text, quoted, time_text, least_text, tick_text, order_text, places_text, lists_text, head_text, sender_text, link_text, stamps_text, until_text, message_text, target_text, toml_text}
 use Rattle.convoy_toml_writer.proofs.Plain.{are_plain, plain_ascii, ascii}
-use Rattle.convoy_toml_writer.proofs.Items.{always, each}
-use Rattle.convoy_toml_writer.proofs.Written.{AreSmall, IsWritable, IsWritableLink, IsWritableMessage}
+use Rattle.convoy_toml_writer.proofs.Items.{each}
+use Rattle.convoy_toml_writer.proofs.Written.{AreSmall, all_plain, IsWritable, IsWritableLink, IsWritableMessage}
 
 -- a text after what is written out, and one after another
 after : (front rest : List ℕ) → IsAscii front → IsAscii rest → IsAscii (front ++ rest)
@@ -81,11 +80,20 @@ order_ascii scenario order small =
       | inr some ↦ rw some (after (codes "order = [") _ (ascii (codes "order = [") refl) (after (listed (map decimal (ranks_of scenario order))) (codes "]\n") (numbers_ascii (ranks_of scenario order) small) (ascii (codes "]\n") refl)))
     ]
 
-sender_ascii : (scenario : Scenario) (sender : Sender) → ((g : ℕ) → are_plain (group_name_at scenario g) ≡ true) → IsAscii (sender_text scenario sender)
+sender_ascii : (sender : Option (List ℕ)) → IfSome sender (λ name. are_plain name ≡ true) → IsAscii (sender_text sender)
 unfolding sender_text
-sender_ascii scenario Client plain = IsAscii-nil
-sender_ascii scenario (Group g) plain =
-    after (codes "from = \"") _ (ascii (codes "from = \"") refl) (after (group_name_at scenario g) (codes "\"\n") (plain_ascii (group_name_at scenario g) (plain g)) (ascii (codes "\"\n") refl))
+sender_ascii None plain = IsAscii-nil
+sender_ascii (Some name) plain =
+    after (codes "from = \"") _ (ascii (codes "from = \"") refl) (after name (codes "\"\n") (plain_ascii name plain) (ascii (codes "\"\n") refl))
+
+names_ascii : (names : List (List ℕ)) → AllByRecursion (λ name. are_plain name ≡ true) names → IsAscii (names_text names)
+names_ascii names plain = listed_ascii quoted names (each names quoted_ascii plain)
+
+places_ascii : (places : List (List ℕ)) → AllByRecursion (λ name. are_plain name ≡ true) places → IsAscii (places_text places)
+unfolding places_text
+places_ascii [] plain = IsAscii-nil
+places_ascii (place ∷ places) plain =
+    after (codes "places = [") (names_text (place ∷ places) ++ codes "]\n") (ascii (codes "places = [") refl) (after (names_text (place ∷ places)) (codes "]\n") (names_ascii (place ∷ places) plain) (ascii (codes "]\n") refl))
 
 stamps_ascii : (stamps : Bool) → IsAscii (stamps_text stamps)
 stamps_ascii true = ascii (codes "stamps = true\n") refl
@@ -109,11 +117,12 @@ module _ (scenario : Scenario) (schedule : Schedule) (is : IsWritable scenario s
   name_ascii g = plain_ascii (group_name_at scenario g) (is.group_names g)
 
   head_ascii : IfSome scenario.tick (λ t. count_of t < 2 ^ 32) → IsAscii (head_text scenario schedule)
-  unfolding head_text
+  unfolding head_text lists_text
   head_ascii short =
       let order = order_ascii scenario schedule.order is.ranks in
-      let schedule_on = between (codes "]\nschedule = [") (listed (map decimal schedule.delays)) _ (ascii (codes "]\nschedule = [") refl) (numbers_ascii schedule.delays is.delays) (after (codes "]\n") _ (ascii (codes "]\n") refl) order) in
-      let groups_on = between (codes "groups = [") (listed (map quoted scenario.groups)) _ (ascii (codes "groups = [") refl) (listed_ascii quoted scenario.groups (each scenario.groups quoted_ascii is.groups)) schedule_on in
+      let schedule_on = between (codes "schedule = [") (listed (map decimal schedule.delays)) _ (ascii (codes "schedule = [") refl) (numbers_ascii schedule.delays is.delays) (after (codes "]\n") _ (ascii (codes "]\n") refl) order) in
+      let places_on = between (codes "]\n") (places_text scenario.places) _ (ascii (codes "]\n") refl) (places_ascii scenario.places is.places) schedule_on in
+      let groups_on = between (codes "groups = [") (names_text scenario.groups) _ (ascii (codes "groups = [") refl) (names_ascii scenario.groups is.groups) places_on in
       let least_on = between (codes "\n") (least_text scenario.time) _ (ascii (codes "\n") refl) (least_ascii scenario.time) groups_on in
       let delay_on = between (codes "delay = ") (decimal scenario.delay) _ (ascii (codes "delay = ") refl) (number_ascii scenario.delay is.delay) least_on in
       after (time_text scenario.time) _ (time_ascii scenario.time) (after (tick_text scenario.tick) _ (tick_ascii scenario.tick short) delay_on)
@@ -124,16 +133,16 @@ module _ (scenario : Scenario) (schedule : Schedule) (is : IsWritable scenario s
       let most_on = between (codes "\nmost = ") (decimal link.most) _ (ascii (codes "\nmost = ") refl) (number_ascii link.most writable.most) (after (codes "\n") _ (ascii (codes "\n") refl) (stamps_ascii link.stamps)) in
       let least_on = between (codes "\"\nleast = ") (decimal link.least) _ (ascii (codes "\"\nleast = ") refl) (number_ascii link.least writable.least) most_on in
       let to_on = between (codes "to = \"") (group_name_at scenario link.to) _ (ascii (codes "to = \"") refl) (name_ascii link.to) least_on in
-      between (codes "\n[[link]]\n") (sender_text scenario link.sender) _ (ascii (codes "\n[[link]]\n") refl) (sender_ascii scenario link.sender is.group_names) to_on
+      between (codes "\n[[link]]\n") (sender_text (sender_name scenario link.sender)) _ (ascii (codes "\n[[link]]\n") refl) (sender_ascii (sender_name scenario link.sender) (is.senders link.sender)) to_on
 
   message_ascii : (message : Message) → IsWritableMessage message → IsAscii (message_text scenario message)
   unfolding message_text
   message_ascii message writable =
       let until_on = after (codes "\n") _ (ascii (codes "\n") refl) (until_ascii message writable.until) in
       let at_on = between (codes "]\nat = ") (decimal message.at) _ (ascii (codes "]\nat = ") refl) (number_ascii message.at writable.at) until_on in
-      let names = listed_ascii (λ (g : ℕ). quoted (group_name_at scenario g)) message.destinations (always message.destinations (λ g. quoted_ascii (group_name_at scenario g) (is.group_names g))) in
-      let to_on = between (codes "to = [") (listed (map (λ g. quoted (group_name_at scenario g)) message.destinations)) _ (ascii (codes "to = [") refl) names at_on in
-      let from_on = between (codes "\"\n") (sender_text scenario message.sender) _ (ascii (codes "\"\n") refl) (sender_ascii scenario message.sender is.group_names) to_on in
+      let named = map (group_name_at scenario) message.destinations in
+      let to_on = between (codes "to = [") (names_text named) _ (ascii (codes "to = [") refl) (names_ascii named (all_plain scenario is.group_names message.destinations)) at_on in
+      let from_on = between (codes "\"\n") (sender_text (sender_name scenario message.sender)) _ (ascii (codes "\"\n") refl) (sender_ascii (sender_name scenario message.sender) (is.senders message.sender)) to_on in
       between (codes "\n[[multicast]]\nname = \"") message.name _ (ascii (codes "\n[[multicast]]\nname = \"") refl) (plain_ascii message.name writable.name) from_on
 
   target_ascii : IsAscii (target_text scenario)

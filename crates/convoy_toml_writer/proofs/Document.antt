@@ -1,13 +1,13 @@
 -- The document of a scenario with a schedule: its lines as they are written, and the table that they are.
-use Rattle.std.proofs.Common.{ℕ, ◌+◌, Bool, true, false, if◌then◌else◌, List, [], ◌∷◌, ◌++◌, map, codes, pos, Option, Some, None}
+use Rattle.std.proofs.Common.{ℕ, ◌+◌, Bool, true, false, if◌then◌else◌, List, [], ◌∷◌, ◌++◌, map, codes, pos, Option, Some, None, option_map}
 use Rattle.std.specs.List.{flat_map}
 use Rattle.toml.specs.Data.{Data, string, integer, boolean, array, table, Members, no_members, member}
 use Rattle.toml.specs.Tables.{Expression, key_value, std_table, array_table}
 use Rattle.toml.specs.View.{items_of}
 use Rattle.convoy_scenario.specs.declared.sender.Sender.{Sender}
-use Rattle.convoy_scenario.specs.declared.sender.Sender.TheVariants.{Client, Group}
 use Rattle.convoy_draft.specs.declared.time.Time.{Time}
 use Rattle.convoy_draft.specs.declared.time.Time.TheVariants.{Ticks, Real}
+use Rattle.convoy_scenario.specs.Naming.{sender_name}
 use Rattle.convoy_scenario.specs.Scenario.{Link, Message, Scenario, group_name_at, may_wait, message_at}
 use Rattle.convoy_packets.specs.Assignment.{Schedule}
 use Rattle.convoy_packets.specs.Order.{Order}
@@ -80,8 +80,7 @@ abbrev pub order_data : Scenario → Order → Option Data
 order_data scenario order = if is_no_order order then None else Some (numbers (ranks_of scenario order))
 
 abbrev pub sender_data : Scenario → Sender → Option Data
-sender_data scenario Client = None
-sender_data scenario (Group g) = Some (string (group_name_at scenario g))
+sender_data scenario sender = option_map string (sender_name scenario sender)
 
 -- that a group's own stamps go by a link, too
 abbrev pub stamps_data : Bool → Option Data
@@ -92,7 +91,12 @@ abbrev pub until_data : Message → Option Data
 until_data message = if may_wait message then Some (number (message.at + message.longest_wait)) else None
 
 abbrev pub names_data : Scenario → List ℕ → Data
-names_data scenario groups = array (items_of (map (λ g. string (group_name_at scenario g)) groups))
+names_data scenario groups = strings (map (group_name_at scenario) groups)
+
+-- the places of clients, where there are any
+abbrev pub places_data : List (List ℕ) → Option Data
+places_data [] = None
+places_data (place ∷ places) = Some (strings (place ∷ places))
 
 -- the values of the keys above all tables
 pub record Head : Type 0 where
@@ -101,6 +105,7 @@ pub record Head : Type 0 where
   pub delay : Data
   pub least : Option Data
   pub groups : Data
+  pub places : Option Data
   pub schedule : Data
   pub order : Option Data
 
@@ -111,6 +116,7 @@ head_of scenario schedule = record {
   delay = number scenario.delay;
   least = least_data scenario.time;
   groups = strings scenario.groups;
+  places = places_data scenario.places;
   schedule = numbers schedule.delays;
   order = order_data scenario schedule.order;
 }
@@ -120,7 +126,7 @@ head_of scenario schedule = record {
 abbrev pub head_pairs : Head → Pairs
 head_pairs head =
     (codes "time", head.time) ∷ (codes "tick", head.tick) ∷ (codes "delay", Some head.delay) ∷ (codes "least", head.least)
-    ∷ (codes "groups", Some head.groups) ∷ (codes "schedule", Some head.schedule) ∷ (codes "order", head.order) ∷ []
+    ∷ (codes "groups", Some head.groups) ∷ (codes "places", head.places) ∷ (codes "schedule", Some head.schedule) ∷ (codes "order", head.order) ∷ []
 
 abbrev pub link_pairs : Scenario → Link → Pairs
 link_pairs scenario link =
@@ -148,16 +154,22 @@ document_lines scenario schedule =
 
 -- ---- in the order of tables
 
+-- the table of a link with these values, and that of a message
+abbrev pub link_row : Option Data → Data → Data → Option Data → Data → Members
+link_row sender least most stamps to =
+    with_member (codes "from") sender (member (codes "least") least (member (codes "most") most (with_member (codes "stamps") stamps (member (codes "to") to no_members))))
+
+abbrev pub message_row : Data → Option Data → Data → Data → Option Data → Members
+message_row at sender name to until =
+    member (codes "at") at (with_member (codes "from") sender (member (codes "name") name (member (codes "to") to (with_member (codes "until") until no_members))))
+
 abbrev pub link_table : Scenario → Link → Members
 link_table scenario link =
-    with_member (codes "from") (sender_data scenario link.sender)
-    (member (codes "least") (number link.least) (member (codes "most") (number link.most) (with_member (codes "stamps") (stamps_data link.stamps) (member (codes "to") (string (group_name_at scenario link.to)) no_members))))
+    link_row (sender_data scenario link.sender) (number link.least) (number link.most) (stamps_data link.stamps) (string (group_name_at scenario link.to))
 
 abbrev pub message_table : Scenario → Message → Members
 message_table scenario message =
-    member (codes "at") (number message.at)
-    (with_member (codes "from") (sender_data scenario message.sender)
-    (member (codes "name") (string message.name) (member (codes "to") (names_data scenario message.destinations) (with_member (codes "until") (until_data message) no_members))))
+    message_row (number message.at) (sender_data scenario message.sender) (string message.name) (names_data scenario message.destinations) (until_data message)
 
 abbrev pub target_table : Scenario → Members
 target_table scenario =
@@ -168,8 +180,8 @@ target_table scenario =
 abbrev pub whole_table : Head → List Members → List Members → Members → Members
 whole_table head links messages target =
     member (codes "delay") head.delay (member (codes "groups") head.groups (with_member (codes "least") head.least (with_member (codes "link") (some_tables links)
-    (with_member (codes "multicast") (some_tables messages) (with_member (codes "order") head.order (member (codes "schedule") head.schedule
-    (member (codes "target") (table target) (with_member (codes "tick") head.tick (with_member (codes "time") head.time no_members)))))))))
+    (with_member (codes "multicast") (some_tables messages) (with_member (codes "order") head.order (with_member (codes "places") head.places
+    (member (codes "schedule") head.schedule (member (codes "target") (table target) (with_member (codes "tick") head.tick (with_member (codes "time") head.time no_members))))))))))
 
 abbrev pub document_table : Scenario → Schedule → Members
 document_table scenario schedule =

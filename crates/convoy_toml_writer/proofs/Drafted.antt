@@ -7,12 +7,10 @@ use Rattle.convoy_draft.specs.declared.limits.TheConstants.{GREATEST_DELAY, MOST
 use Rattle.convoy_draft.specs.declared.fault.Key.TheVariants.{Least}
 use Rattle.convoy_draft.specs.declared.time.Time.{Time}
 use Rattle.convoy_draft.specs.declared.time.Time.TheVariants.{Ticks, Real}
-use Rattle.convoy_scenario.specs.declared.sender.Sender.{Sender}
-use Rattle.convoy_scenario.specs.declared.sender.Sender.TheVariants.{Client, Group}
 use Rattle.convoy_draft.specs.Checks.{is_within, leads_elsewhere}
 use Rattle.convoy_draft.specs.Draft.{Draft, DraftLink, DraftMessage}
-use Rattle.convoy_scenario.specs.Naming.{draft_for, draft_link, draft_message}
-use Rattle.convoy_scenario.specs.Scenario.{Link, Message, Scenario, may_wait}
+use Rattle.convoy_scenario.specs.Naming.{draft_for, draft_link, draft_message, sender_name}
+use Rattle.convoy_scenario.specs.Scenario.{Link, Message, Scenario, group_name_at, may_wait}
 use Rattle.convoy_toml.specs.declared.links.TheConstants.{MOST_WRITTEN_LINKS}
 use Rattle.convoy_toml.specs.declared.written.WrittenTime.{WrittenTime}
 use Rattle.convoy_toml.specs.declared.written.WrittenTime.TheVariants.{Count}
@@ -21,7 +19,7 @@ use Rattle.convoy_toml.specs.Deadlines.{deadlines_of, deadlines_of_written, has_
 use Rattle.convoy_toml.specs.Shape.{WrittenScenario}
 use Rattle.convoy_toml.specs.Times.{is_count, if_written, times_of_message, times_of_links, times_of, tick_of, last_tick, whole_if_written, is_least, need_least, draft_messages_of, bundles_of, draft_of_written}
 use Rattle.convoy_toml.specs.Ways.{with_least}
-use Rattle.convoy_toml_writer.proofs.Shaped.{written_least, written_link, written_until, written_message, written_scenario}
+use Rattle.convoy_toml_writer.proofs.Shaped.{written_ends, written_least, written_link, written_until, written_message, written_scenario}
 
 -- ---- times
 
@@ -96,19 +94,19 @@ apart_one link =
     ]
 
 one_way : (scenario : Scenario) (link : Link) → ways_of (bundle scenario link) ≡ draft_link scenario link ∷ []
-one_way scenario link = by_sender link.sender where
-  by_sender : (sender : Sender) → ways_of (bundle scenario (record link { sender = sender })) ≡ draft_link scenario (record link { sender = sender }) ∷ []
-  by_sender Client = refl
-  by_sender (Group g) = refl
+one_way scenario link = by_sender (sender_name scenario link.sender) where
+  by_sender : (sender : Option (List ℕ)) → ways_of (record (bundle scenario link) { ends = written_ends sender (group_name_at scenario link.to) }) ≡ record (draft_link scenario link) { sender = sender } ∷ []
+  by_sender None = refl
+  by_sender (Some name) = refl
 
 one_link : (scenario : Scenario) (link : Link) → links_of_bundle (bundle scenario link) ≡ draft_link scenario link ∷ []
 one_link scenario link = ap apart (one_way scenario link) ∙ apart_one (draft_link scenario link)
 
 one_counts : (scenario : Scenario) (link : Link) → count_of (bundle scenario link) ≡ 1
-one_counts scenario link = by_sender link.sender where
-  by_sender : (sender : Sender) → count_of (bundle scenario (record link { sender = sender })) ≡ 1
-  by_sender Client = refl
-  by_sender (Group g) = refl
+one_counts scenario link = by_sender (sender_name scenario link.sender) where
+  by_sender : (sender : Option (List ℕ)) → count_of (record (bundle scenario link) { ends = written_ends sender (group_name_at scenario link.to) }) ≡ 1
+  by_sender None = refl
+  by_sender (Some name) = refl
 
 counted : (scenario : Scenario) (links : List Link) → sum_by count_of (map (bundle scenario) links) ≡ length links
 counted scenario [] = refl
@@ -148,7 +146,7 @@ least_adds_none Real draft = refl
 -- step by step
 in_steps : (scenario : WrittenScenario) (tick : Option ℕ) (delay : ℕ) (least : Option ℤ) (messages : List DraftMessage) (bundles : List Bundle) (links : List DraftLink) → tick_of scenario ≡ Ok tick → scenario.delay ≡ Some (Count (pos delay))
     → scenario.agreements ≡ [] → whole_if_written tick Least scenario.least ≡ Ok least → draft_messages_of tick scenario.messages ≡ Ok messages → bundles_of tick scenario.links ≡ Ok bundles → links_of_bundles bundles ≡ Ok links → need_least scenario.time (pos delay) least ≡ Ok tt
-    → let draft : Draft = record { time = scenario.time; tick = tick; delay = pos delay; groups = scenario.groups; links = links; messages = messages; target_message = scenario.target_message; target_group = scenario.target_group } in
+    → let draft : Draft = record { time = scenario.time; tick = tick; delay = pos delay; groups = scenario.groups; places = scenario.places; links = links; messages = messages; target_message = scenario.target_message; target_group = scenario.target_group } in
     draft_of_written scenario ≡ Ok (with_least least draft)
 in_steps scenario tick delay least messages bundles links has_tick has_delay none_agree has_least has_messages has_bundles has_links within = rw (has_tick, has_delay, has_least, has_messages, has_bundles, none_agree, has_links, within) refl
 

@@ -1,20 +1,18 @@
 -- What the lines of the document leave: its table.
-use Rattle.std.proofs.Common.{◌≡◌, ℕ, Bool, true, false, List, [], ◌∷◌, ◌++◌, map, codes, Option, Some, None, option_map, option_and_then, refl, sym, ap, ◌∙◌, append_assoc}
+use Rattle.std.proofs.Common.{◌≡◌, ℕ, List, [], ◌∷◌, ◌++◌, map, codes, Option, Some, None, option_map, option_and_then, refl, sym, ap, ◌∙◌, append_assoc}
 use Rattle.std.specs.List.{flat_map}
 use Rattle.std.proofs.lemmas.List.{append-nil}
 use Rattle.std.proofs.lemmas.Option.{none-some, same_Some}
-use Rattle.toml.specs.Data.{Data, string, array, table, Items, no_items, item, push_item, Members, no_members, member}
+use Rattle.toml.specs.Data.{Data, string, array, table, Items, no_items, item, push_item, Members}
 use Rattle.toml.specs.Tables.{header, Node, Nodes, no_nodes, node, value, open_table, open_array, get_node, insert, replace, Edit, header_node, along_header, along_dots, at_key, put, define, close, close_node, Document, Expression, std_table}
 use Rattle.toml.specs.View.{items_of}
 use Rattle.toml.proofs.NodeLaws.{seq, keep, get_node-replace, replace-replace, replace-self, get_node-insert, replace-insert, along_found}
 use Rattle.toml.proofs.ReadLines.{run}
 use Rattle.toml.proofs.ReadValues.{item_join, item_join-none, item_join-push}
-use Rattle.convoy_scenario.specs.declared.sender.Sender.{Sender}
-use Rattle.convoy_scenario.specs.declared.sender.Sender.TheVariants.{Client, Group}
 use Rattle.convoy_scenario.specs.Scenario.{Link, Message, Scenario, group_name_at, message_at}
 use Rattle.convoy_packets.specs.Assignment.{Schedule}
 use Rattle.convoy_toml_writer.proofs.Items.{map_same}
-use Rattle.convoy_toml_writer.proofs.Document.{number, with_member, some_tables, pair, Pairs, pair_lines, array_lines, Head, head_of, head_pairs, sender_data, stamps_data, until_data, names_data, link_pairs, message_pairs, target_pairs, document_lines, link_table, message_table, whole_table, document_table}
+use Rattle.convoy_toml_writer.proofs.Document.{number, with_member, some_tables, pair, Pairs, pair_lines, array_lines, Head, head_of, head_pairs, sender_data, stamps_data, until_data, names_data, link_pairs, message_pairs, target_pairs, document_lines, link_row, message_row, link_table, message_table, whole_table, document_table}
 
 -- ---- pairs
 
@@ -159,27 +157,37 @@ close_value : (o : Option Data) → option_map close_node (option_map value o) �
 close_value None = refl
 close_value (Some d) = refl
 
+-- what the table of a link holds: the values of its keys
+abbrev link_values : Option Data → Data → Data → Option Data → Data → Nodes
+link_values sender least most stamps to =
+    with_node (codes "from") (option_map value sender)
+    (node (codes "least") (value least) (node (codes "most") (value most) (with_node (codes "stamps") (option_map value stamps) (node (codes "to") (value to) no_nodes))))
+
+link_values_made : (sender : Option Data) (least most : Data) (stamps : Option Data) (to : Data)
+    → puts ((codes "from", sender) ∷ (codes "to", Some to) ∷ (codes "least", Some least) ∷ (codes "most", Some most) ∷ (codes "stamps", stamps) ∷ []) no_nodes ≡ Some (link_values sender least most stamps to)
+unfolding along_dots at_key
+link_values_made None least most None to = refl
+link_values_made None least most (Some b) to = refl
+link_values_made (Some s) least most None to = refl
+link_values_made (Some s) least most (Some b) to = refl
+
+link_values_closed : (sender : Option Data) (least most : Data) (stamps : Option Data) (to : Data) → close (link_values sender least most stamps to) ≡ link_row sender least most stamps to
+link_values_closed None least most None to = refl
+link_values_closed None least most (Some b) to = refl
+link_values_closed (Some s) least most None to = refl
+link_values_closed (Some s) least most (Some b) to = refl
+
 abbrev link_nodes : Scenario → Link → Nodes
 link_nodes scenario link =
-    with_node (codes "from") (option_map value (sender_data scenario link.sender))
-    (node (codes "least") (value (number link.least)) (node (codes "most") (value (number link.most)) (with_node (codes "stamps") (option_map value (stamps_data link.stamps)) (node (codes "to") (value (string (group_name_at scenario link.to))) no_nodes))))
+    link_values (sender_data scenario link.sender) (number link.least) (number link.most) (stamps_data link.stamps) (string (group_name_at scenario link.to))
 
 link_made : (scenario : Scenario) (link : Link) → puts (link_pairs scenario link) no_nodes ≡ Some (link_nodes scenario link)
-unfolding along_dots at_key
-link_made scenario link = by_sender link.sender link.stamps where
-  by_sender : (sender : Sender) (stamps : Bool) → puts (link_pairs scenario (record link { sender = sender; stamps = stamps })) no_nodes ≡ Some (link_nodes scenario (record link { sender = sender; stamps = stamps }))
-  by_sender Client true = refl
-  by_sender Client false = refl
-  by_sender (Group g) true = refl
-  by_sender (Group g) false = refl
+link_made scenario link =
+    link_values_made (sender_data scenario link.sender) (number link.least) (number link.most) (stamps_data link.stamps) (string (group_name_at scenario link.to))
 
 link_closed : (scenario : Scenario) (link : Link) → close (link_nodes scenario link) ≡ link_table scenario link
-link_closed scenario link = by_sender link.sender link.stamps where
-  by_sender : (sender : Sender) (stamps : Bool) → close (link_nodes scenario (record link { sender = sender; stamps = stamps })) ≡ link_table scenario (record link { sender = sender; stamps = stamps })
-  by_sender Client true = refl
-  by_sender Client false = refl
-  by_sender (Group g) true = refl
-  by_sender (Group g) false = refl
+link_closed scenario link =
+    link_values_closed (sender_data scenario link.sender) (number link.least) (number link.most) (stamps_data link.stamps) (string (group_name_at scenario link.to))
 
 -- what the table of a message holds: the values of its keys
 abbrev message_values : Data → Option Data → Data → Data → Option Data → Nodes
@@ -188,20 +196,19 @@ message_values at sender name to until =
     (with_node (codes "from") (option_map value sender)
     (node (codes "name") (value name) (node (codes "to") (value to) (with_node (codes "until") (option_map value until) no_nodes))))
 
-values_made : (at : Data) (sender : Option Data) (name to : Data) (until : Option Data)
+message_values_made : (at : Data) (sender : Option Data) (name to : Data) (until : Option Data)
     → puts ((codes "name", Some name) ∷ (codes "from", sender) ∷ (codes "to", Some to) ∷ (codes "at", Some at) ∷ (codes "until", until) ∷ []) no_nodes ≡ Some (message_values at sender name to until)
 unfolding along_dots at_key
-values_made at None name to None = refl
-values_made at None name to (Some u) = refl
-values_made at (Some s) name to None = refl
-values_made at (Some s) name to (Some u) = refl
+message_values_made at None name to None = refl
+message_values_made at None name to (Some u) = refl
+message_values_made at (Some s) name to None = refl
+message_values_made at (Some s) name to (Some u) = refl
 
-values_closed : (at : Data) (sender : Option Data) (name to : Data) (until : Option Data) → close (message_values at sender name to until)
-    ≡ member (codes "at") at (with_member (codes "from") sender (member (codes "name") name (member (codes "to") to (with_member (codes "until") until no_members))))
-values_closed at None name to None = refl
-values_closed at None name to (Some u) = refl
-values_closed at (Some s) name to None = refl
-values_closed at (Some s) name to (Some u) = refl
+message_values_closed : (at : Data) (sender : Option Data) (name to : Data) (until : Option Data) → close (message_values at sender name to until) ≡ message_row at sender name to until
+message_values_closed at None name to None = refl
+message_values_closed at None name to (Some u) = refl
+message_values_closed at (Some s) name to None = refl
+message_values_closed at (Some s) name to (Some u) = refl
 
 abbrev message_nodes : Scenario → Message → Nodes
 message_nodes scenario message =
@@ -209,11 +216,11 @@ message_nodes scenario message =
 
 message_made : (scenario : Scenario) (message : Message) → puts (message_pairs scenario message) no_nodes ≡ Some (message_nodes scenario message)
 message_made scenario message =
-    values_made (number message.at) (sender_data scenario message.sender) (string message.name) (names_data scenario message.destinations) (until_data message)
+    message_values_made (number message.at) (sender_data scenario message.sender) (string message.name) (names_data scenario message.destinations) (until_data message)
 
 message_closed : (scenario : Scenario) (message : Message) → close (message_nodes scenario message) ≡ message_table scenario message
 message_closed scenario message =
-    values_closed (number message.at) (sender_data scenario message.sender) (string message.name) (names_data scenario message.destinations) (until_data message)
+    message_values_closed (number message.at) (sender_data scenario message.sender) (string message.name) (names_data scenario message.destinations) (until_data message)
 
 abbrev target_nodes : Scenario → Nodes
 target_nodes scenario =
@@ -230,28 +237,44 @@ target_made scenario = refl
 abbrev root_of : Head → Option Node → Option Node → Option Node → Nodes
 root_of head links messages target =
     node (codes "delay") (value head.delay) (node (codes "groups") (value head.groups) (with_node (codes "least") (option_map value head.least) (with_node (codes "link") links (with_node (codes "multicast") messages
-    (with_node (codes "order") (option_map value head.order) (node (codes "schedule") (value head.schedule) (with_node (codes "target") target
-    (with_node (codes "tick") (option_map value head.tick) (with_node (codes "time") (option_map value head.time) no_nodes)))))))))
+    (with_node (codes "order") (option_map value head.order) (with_node (codes "places") (option_map value head.places) (node (codes "schedule") (value head.schedule) (with_node (codes "target") target
+    (with_node (codes "tick") (option_map value head.tick) (with_node (codes "time") (option_map value head.time) no_nodes))))))))))
 
-head_run : (time tick least order : Option Data) (delay groups schedule : Data) (es : List Expression) → let head : Head = record { time = time; tick = tick; delay = delay; least = least; groups = groups; schedule = schedule; order = order } in
+head_run : (time tick least places order : Option Data) (delay groups schedule : Data) (es : List Expression) → let head : Head = record { time = time; tick = tick; delay = delay; least = least; groups = groups; places = places; schedule = schedule; order = order } in
     run (no_nodes, []) (pair_lines (head_pairs head) ++ es) ≡ run (root_of head None None None, []) es
 unfolding define along_header along_dots at_key
-head_run None None None None delay groups schedule es = refl
-head_run None None None (Some o) delay groups schedule es = refl
-head_run None None (Some l) None delay groups schedule es = refl
-head_run None None (Some l) (Some o) delay groups schedule es = refl
-head_run None (Some k) None None delay groups schedule es = refl
-head_run None (Some k) None (Some o) delay groups schedule es = refl
-head_run None (Some k) (Some l) None delay groups schedule es = refl
-head_run None (Some k) (Some l) (Some o) delay groups schedule es = refl
-head_run (Some t) None None None delay groups schedule es = refl
-head_run (Some t) None None (Some o) delay groups schedule es = refl
-head_run (Some t) None (Some l) None delay groups schedule es = refl
-head_run (Some t) None (Some l) (Some o) delay groups schedule es = refl
-head_run (Some t) (Some k) None None delay groups schedule es = refl
-head_run (Some t) (Some k) None (Some o) delay groups schedule es = refl
-head_run (Some t) (Some k) (Some l) None delay groups schedule es = refl
-head_run (Some t) (Some k) (Some l) (Some o) delay groups schedule es = refl
+head_run None None None None None delay groups schedule es = refl
+head_run None None None None (Some o) delay groups schedule es = refl
+head_run None None None (Some p) None delay groups schedule es = refl
+head_run None None None (Some p) (Some o) delay groups schedule es = refl
+head_run None None (Some l) None None delay groups schedule es = refl
+head_run None None (Some l) None (Some o) delay groups schedule es = refl
+head_run None None (Some l) (Some p) None delay groups schedule es = refl
+head_run None None (Some l) (Some p) (Some o) delay groups schedule es = refl
+head_run None (Some k) None None None delay groups schedule es = refl
+head_run None (Some k) None None (Some o) delay groups schedule es = refl
+head_run None (Some k) None (Some p) None delay groups schedule es = refl
+head_run None (Some k) None (Some p) (Some o) delay groups schedule es = refl
+head_run None (Some k) (Some l) None None delay groups schedule es = refl
+head_run None (Some k) (Some l) None (Some o) delay groups schedule es = refl
+head_run None (Some k) (Some l) (Some p) None delay groups schedule es = refl
+head_run None (Some k) (Some l) (Some p) (Some o) delay groups schedule es = refl
+head_run (Some t) None None None None delay groups schedule es = refl
+head_run (Some t) None None None (Some o) delay groups schedule es = refl
+head_run (Some t) None None (Some p) None delay groups schedule es = refl
+head_run (Some t) None None (Some p) (Some o) delay groups schedule es = refl
+head_run (Some t) None (Some l) None None delay groups schedule es = refl
+head_run (Some t) None (Some l) None (Some o) delay groups schedule es = refl
+head_run (Some t) None (Some l) (Some p) None delay groups schedule es = refl
+head_run (Some t) None (Some l) (Some p) (Some o) delay groups schedule es = refl
+head_run (Some t) (Some k) None None None delay groups schedule es = refl
+head_run (Some t) (Some k) None None (Some o) delay groups schedule es = refl
+head_run (Some t) (Some k) None (Some p) None delay groups schedule es = refl
+head_run (Some t) (Some k) None (Some p) (Some o) delay groups schedule es = refl
+head_run (Some t) (Some k) (Some l) None None delay groups schedule es = refl
+head_run (Some t) (Some k) (Some l) None (Some o) delay groups schedule es = refl
+head_run (Some t) (Some k) (Some l) (Some p) None delay groups schedule es = refl
+head_run (Some t) (Some k) (Some l) (Some p) (Some o) delay groups schedule es = refl
 
 -- a key that is not that of a first node
 get_past : (j k : List ℕ) (o : Option Node) (ns : Nodes) → ((x : Node) → get_node j (node k x ns) ≡ get_node j ns) → get_node j (with_node k o ns) ≡ get_node j ns
@@ -270,43 +293,47 @@ insert_before j k y (Some x) ns before others = before x
 -- what stands after the tables of messages
 abbrev after_messages : Head → Option Node → Nodes
 after_messages head target =
-    with_node (codes "order") (option_map value head.order) (node (codes "schedule") (value head.schedule) (with_node (codes "target") target
-    (with_node (codes "tick") (option_map value head.tick) (with_node (codes "time") (option_map value head.time) no_nodes))))
+    with_node (codes "order") (option_map value head.order) (with_node (codes "places") (option_map value head.places) (node (codes "schedule") (value head.schedule) (with_node (codes "target") target
+    (with_node (codes "tick") (option_map value head.tick) (with_node (codes "time") (option_map value head.time) no_nodes)))))
 
 -- a key that the head has not
 none_after : (j : List ℕ) (head : Head)
     → ((x : Node) (ns : Nodes) → get_node j (node (codes "order") x ns) ≡ get_node j ns)
+    → ((x : Node) (ns : Nodes) → get_node j (node (codes "places") x ns) ≡ get_node j ns)
     → ((x : Node) (ns : Nodes) → get_node j (node (codes "schedule") x ns) ≡ get_node j ns)
     → ((x : Node) (ns : Nodes) → get_node j (node (codes "tick") x ns) ≡ get_node j ns)
     → ((x : Node) (ns : Nodes) → get_node j (node (codes "time") x ns) ≡ get_node j ns)
     → get_node j (after_messages head None) ≡ None
-none_after j head order schedule tick time =
+none_after j head order places schedule tick time =
     let timed = with_node (codes "time") (option_map value head.time) no_nodes in
     let ticked = with_node (codes "tick") (option_map value head.tick) timed in
-    get_past j (codes "order") (option_map value head.order) (node (codes "schedule") (value head.schedule) ticked) (λ x. order x (node (codes "schedule") (value head.schedule) ticked))
+    let scheduled = node (codes "schedule") (value head.schedule) ticked in
+    let placed = with_node (codes "places") (option_map value head.places) scheduled in
+    get_past j (codes "order") (option_map value head.order) placed (λ x. order x placed)
+    ∙ get_past j (codes "places") (option_map value head.places) scheduled (λ x. places x scheduled)
     ∙ schedule (value head.schedule) ticked ∙ get_past j (codes "tick") (option_map value head.tick) timed (λ x. tick x timed)
     ∙ get_past j (codes "time") (option_map value head.time) no_nodes (λ x. time x no_nodes)
 
 no_link : (head : Head) → get_node (codes "link") (root_of head None None None) ≡ None
 no_link head =
-    get_past (codes "link") (codes "least") (option_map value head.least) _ (λ x. refl) ∙ none_after (codes "link") head (λ x ns. refl) (λ x ns. refl) (λ x ns. refl) (λ x ns. refl)
+    get_past (codes "link") (codes "least") (option_map value head.least) _ (λ x. refl) ∙ none_after (codes "link") head (λ x ns. refl) (λ x ns. refl) (λ x ns. refl) (λ x ns. refl) (λ x ns. refl)
 
 no_message : (head : Head) (links : Option Node) → get_node (codes "multicast") (root_of head links None None) ≡ None
 no_message head links =
     get_past (codes "multicast") (codes "least") (option_map value head.least) _ (λ x. refl) ∙ get_past (codes "multicast") (codes "link") links _ (λ x. refl)
-    ∙ none_after (codes "multicast") head (λ x ns. refl) (λ x ns. refl) (λ x ns. refl) (λ x ns. refl)
+    ∙ none_after (codes "multicast") head (λ x ns. refl) (λ x ns. refl) (λ x ns. refl) (λ x ns. refl) (λ x ns. refl)
 
 no_target : (head : Head) (links messages : Option Node) → get_node (codes "target") (root_of head links messages None) ≡ None
 no_target head links messages =
     get_past (codes "target") (codes "least") (option_map value head.least) _ (λ x. refl) ∙ get_past (codes "target") (codes "link") links _ (λ x. refl) ∙ get_past (codes "target") (codes "multicast") messages _ (λ x. refl)
-    ∙ none_after (codes "target") head (λ x ns. refl) (λ x ns. refl) (λ x ns. refl) (λ x ns. refl)
+    ∙ none_after (codes "target") head (λ x ns. refl) (λ x ns. refl) (λ x ns. refl) (λ x ns. refl) (λ x ns. refl)
 
 link_put : (head : Head) (links : Option Node) → insert_some (codes "link") links (root_of head None None None) ≡ root_of head links None None
 link_put head None = refl
 link_put head (Some x) =
     ap (λ rest. node (codes "delay") (value head.delay) (node (codes "groups") (value head.groups) rest))
     (insert_past (codes "link") (codes "least") x (option_map value head.least) _ (λ y. refl)
-    ∙ ap (with_node (codes "least") (option_map value head.least)) (insert_before (codes "link") (codes "order") x (option_map value head.order) _ (λ y. refl) refl))
+    ∙ ap (with_node (codes "least") (option_map value head.least)) (insert_before (codes "link") (codes "order") x (option_map value head.order) _ (λ y. refl) (insert_before (codes "link") (codes "places") x (option_map value head.places) _ (λ y. refl) refl)))
 
 message_put : (head : Head) (links messages : Option Node) → insert_some (codes "multicast") messages (root_of head links None None) ≡ root_of head links messages None
 message_put head links None = refl
@@ -314,7 +341,7 @@ message_put head links (Some x) =
     ap (λ rest. node (codes "delay") (value head.delay) (node (codes "groups") (value head.groups) rest))
     (insert_past (codes "multicast") (codes "least") x (option_map value head.least) _ (λ y. refl)
     ∙ ap (with_node (codes "least") (option_map value head.least)) (insert_past (codes "multicast") (codes "link") x links _ (λ y. refl)
-    ∙ ap (with_node (codes "link") links) (insert_before (codes "multicast") (codes "order") x (option_map value head.order) _ (λ y. refl) refl)))
+    ∙ ap (with_node (codes "link") links) (insert_before (codes "multicast") (codes "order") x (option_map value head.order) _ (λ y. refl) (insert_before (codes "multicast") (codes "places") x (option_map value head.places) _ (λ y. refl) refl))))
 
 target_put : (head : Head) (links messages : Option Node) (x : Node) → insert (codes "target") x (root_of head links messages None) ≡ root_of head links messages (Some x)
 target_put head links messages x =
@@ -325,7 +352,8 @@ target_put head links messages x =
     ∙ ap (with_node (codes "least") (option_map value head.least)) (insert_past (codes "target") (codes "link") x links _ (λ y. refl)
     ∙ ap (with_node (codes "link") links) (insert_past (codes "target") (codes "multicast") x messages _ (λ y. refl)
     ∙ ap (with_node (codes "multicast") messages) (insert_past (codes "target") (codes "order") x (option_map value head.order) _ (λ y. refl)
-    ∙ ap (λ rest. with_node (codes "order") (option_map value head.order) (node (codes "schedule") (value head.schedule) rest)) at_tick))))
+    ∙ ap (with_node (codes "order") (option_map value head.order)) (insert_past (codes "target") (codes "places") x (option_map value head.places) _ (λ y. refl)
+    ∙ ap (λ rest. with_node (codes "places") (option_map value head.places) (node (codes "schedule") (value head.schedule) rest)) at_tick)))))
 
 -- the table of the root
 root_closed : (head : Head) (links messages : Option Node) (target : Nodes) (link_rows message_rows : List Members)
@@ -337,10 +365,12 @@ root_closed head links messages target link_rows message_rows same_links same_me
       close_with (codes "link") links _,
       close_with (codes "multicast") messages _,
       close_with (codes "order") (option_map value head.order) _,
+      close_with (codes "places") (option_map value head.places) _,
       close_with (codes "tick") (option_map value head.tick) _,
       close_with (codes "time") (option_map value head.time) _,
       close_value head.least,
       close_value head.order,
+      close_value head.places,
       close_value head.tick,
       close_value head.time,
       same_links,
@@ -361,7 +391,7 @@ document_filled scenario schedule =
     let link_rows = map_same (λ link. close (link_nodes scenario link)) (link_table scenario) scenario.links (link_closed scenario) in
     let message_rows = map_same (λ message. close (message_nodes scenario message)) (message_table scenario) scenario.multicasts (message_closed scenario) in (
       (full, codes "target" ∷ []),
-      head_run head.time head.tick head.least head.order head.delay head.groups head.schedule _
+      head_run head.time head.tick head.least head.places head.order head.delay head.groups head.schedule _
           ∙ links.ran (message_lines ++ target_lines) ∙ ap (λ ns. run (ns, links.path_now) (message_lines ++ target_lines)) (link_put head links.array_now)
           ∙ messages.ran target_lines ∙ ap (λ ns. run (ns, messages.path_now) target_lines) (message_put head links.array_now messages.array_now)
           ∙ target_ran ∙ ap (λ ns. Some (ns, codes "target" ∷ [])) (target_put head links.array_now messages.array_now (open_table header (target_nodes scenario))),

@@ -7,11 +7,6 @@ pub each : {A : Type 0} {P Q : A → Type 0} (xs : List A) → ((x : A) → P x 
 each [] follows all = tt
 each (x ∷ xs) follows all = (follows x all.0, each xs follows all.1)
 
--- what holds of all values holds of each item
-pub always : {A : Type 0} {Q : A → Type 0} (xs : List A) → ((x : A) → Q x) → AllByRecursion Q xs
-always [] holds = tt
-always (x ∷ xs) holds = (holds x, always xs holds)
-
 pub map_same : {A B : Type 0} (f g : A → B) (xs : List A) → ((x : A) → f x ≡ g x) → map f xs ≡ map g xs
 map_same f g [] same = refl
 map_same f g (x ∷ xs) same = rw (same x, map_same f g xs same) refl

@@ -1,20 +1,19 @@
 -- The lines of the document are such as its reader takes: values are not too deep, and have no dates.
-use Rattle.std.proofs.Common.{◌≡◌, ℕ, ◌≤◌, Bool, true, false, List, [], ◌∷◌, ◌++◌, map, codes, Option, Some, None, refl, arith, IfSome, inl, inr}
+use Rattle.std.proofs.Common.{◌≡◌, ℕ, ◌≤◌, Bool, true, false, List, [], ◌∷◌, ◌++◌, map, codes, Option, Some, None, option_map, refl, arith, IfSome, inl, inr}
 use Rattle.std.specs.List.{flat_map, AllByRecursion}
 use Rattle.std.proofs.lemmas.Bool.{cases_Bool}
 use Rattle.toml.specs.Data.{Data, string, array, depth, items_depth, has_valid_dates, items_have_valid_dates}
 use Rattle.toml.specs.Tables.{Expression}
 use Rattle.toml.specs.View.{items_of}
 use Rattle.toml.proofs.ReadLines.{AllPrinted}
-use Rattle.convoy_scenario.specs.declared.sender.Sender.{Sender}
-use Rattle.convoy_scenario.specs.declared.sender.Sender.TheVariants.{Client, Group}
 use Rattle.convoy_draft.specs.declared.time.Time.{Time}
 use Rattle.convoy_draft.specs.declared.time.Time.TheVariants.{Ticks, Real}
-use Rattle.convoy_scenario.specs.Scenario.{Message, Scenario, may_wait}
+use Rattle.convoy_scenario.specs.Naming.{sender_name}
+use Rattle.convoy_scenario.specs.Scenario.{Message, Scenario, group_name_at, may_wait}
 use Rattle.convoy_packets.specs.Assignment.{Schedule}
 use Rattle.convoy_packets.specs.Order.{Order}
 use Rattle.convoy_packets.specs.OrderLists.{is_no_order}
-use Rattle.convoy_toml_writer.proofs.Document.{Pairs, pair_lines, array_lines, time_data, least_data, tick_data, order_data, sender_data, stamps_data, until_data, head_of, head_pairs, link_pairs, message_pairs, target_pairs, document_lines}
+use Rattle.convoy_toml_writer.proofs.Document.{Pairs, pair_lines, array_lines, time_data, least_data, tick_data, order_data, places_data, stamps_data, until_data, head_of, head_pairs, link_pairs, message_pairs, target_pairs, document_lines}
 
 -- a value that is a text, a number or an array of such
 abbrev IsShallow : Data → Type 0
@@ -60,9 +59,13 @@ tick_shallow : (tick : Option ℕ) → IfSome (tick_data tick) IsShallow
 tick_shallow None = tt
 tick_shallow (Some tick) = (omega arith, refl)
 
-sender_shallow : (scenario : Scenario) (sender : Sender) → IfSome (sender_data scenario sender) IsShallow
-sender_shallow scenario Client = tt
-sender_shallow scenario (Group g) = (omega arith, refl)
+sender_shallow : (name : Option (List ℕ)) → IfSome (option_map string name) IsShallow
+sender_shallow None = tt
+sender_shallow (Some name) = (omega arith, refl)
+
+places_shallow : (places : List (List ℕ)) → IfSome (places_data places) IsShallow
+places_shallow [] = tt
+places_shallow (place ∷ places) = array_shallow string (place ∷ places) (λ x. refl) (λ x. refl)
 
 stamps_shallow : (stamps : Bool) → IfSome (stamps_data stamps) IsShallow
 stamps_shallow true = (omega arith, refl)
@@ -87,9 +90,9 @@ pub document_printed : (scenario : Scenario) (schedule : Schedule) → AllPrinte
 document_printed scenario schedule =
     AllPrinted-append _ _
     (pairs_printed (head_pairs (head_of scenario schedule))
-    (time_shallow scenario.time, (tick_shallow scenario.tick, ((omega arith, refl), (least_shallow scenario.time, (array_shallow string scenario.groups (λ x. refl) (λ x. refl), (array_shallow _ schedule.delays (λ n. refl) (λ n. refl), (order_shallow scenario schedule.order, tt))))))))
+    (time_shallow scenario.time, (tick_shallow scenario.tick, ((omega arith, refl), (least_shallow scenario.time, (array_shallow string scenario.groups (λ x. refl) (λ x. refl), (places_shallow scenario.places, (array_shallow _ schedule.delays (λ n. refl) (λ n. refl), (order_shallow scenario schedule.order, tt)))))))))
     (AllPrinted-append _ _
-    (tables_printed (codes "link") (link_pairs scenario) scenario.links (λ link. (sender_shallow scenario link.sender, ((omega arith, refl), ((omega arith, refl), ((omega arith, refl), (stamps_shallow link.stamps, tt)))))))
+    (tables_printed (codes "link") (link_pairs scenario) scenario.links (λ link. (sender_shallow (sender_name scenario link.sender), ((omega arith, refl), ((omega arith, refl), ((omega arith, refl), (stamps_shallow link.stamps, tt)))))))
     (AllPrinted-append _ _
-    (tables_printed (codes "multicast") (message_pairs scenario) scenario.multicasts (λ m. ((omega arith, refl), (sender_shallow scenario m.sender, (array_shallow _ m.destinations (λ g. refl) (λ g. refl), ((omega arith, refl), (until_shallow m, tt)))))))
+    (tables_printed (codes "multicast") (message_pairs scenario) scenario.multicasts (λ m. ((omega arith, refl), (sender_shallow (sender_name scenario m.sender), (array_shallow string (map (group_name_at scenario) m.destinations) (λ x. refl) (λ x. refl), ((omega arith, refl), (until_shallow m, tt)))))))
     (omega arith, pairs_printed (target_pairs scenario) ((omega arith, refl), ((omega arith, refl), tt)))))

@@ -7,10 +7,8 @@ use Rattle.toml.specs.Data.{Data, string, array, table, Items, Members, get_memb
 use Rattle.toml.specs.View.{items_of}
 use Rattle.convoy_lines.specs.Results.{◌>>=◌}
 use Rattle.convoy_draft.specs.declared.fault.Key.{Key}
-use Rattle.convoy_draft.specs.declared.fault.Key.TheVariants.{Time, Tick, Delay, Least, Groups, Multicast, Target, Link, Schedule, Order}
+use Rattle.convoy_draft.specs.declared.fault.Key.TheVariants.{Time, Tick, Delay, Least, Groups, Places, Multicast, Target, Link, Schedule, Order}
 use Rattle.convoy_draft.specs.declared.fault.Key.TheVariants as key
-use Rattle.convoy_scenario.specs.declared.sender.Sender.{Sender}
-use Rattle.convoy_scenario.specs.declared.sender.Sender.TheVariants.{Client, Group}
 use Rattle.convoy_draft.specs.declared.time.Time.{Time as AnyTime}
 use Rattle.convoy_draft.specs.declared.time.Time.TheVariants.{Ticks, Real}
 use Rattle.convoy_draft.specs.Durations.{duration_of}
@@ -23,11 +21,11 @@ use Rattle.convoy_packets.specs.OrderLists.{is_no_order, ranks_of}
 use Rattle.convoy_toml.specs.declared.target.TargetKey.TheVariants.{Required}
 use Rattle.convoy_toml.specs.declared.written.WrittenTime.{WrittenTime}
 use Rattle.convoy_toml.specs.declared.written.WrittenTime.TheVariants.{Count}
-use Rattle.convoy_toml.specs.Shape.{all_of, need, need_all, wish, wish_all, has_only, time_of_table, as_time, as_tick, as_when, delay_of_table, needs_delay, as_least, WrittenMessage, WrittenLink, WrittenScenario, WrittenTarget, message_of_table, messages_of, link_of_table, links_of, written_target, written_of_table}
+use Rattle.convoy_toml.specs.Shape.{all_of, need, need_all, wish, wish_all, has_only, time_of_table, as_time, as_tick, as_when, delay_of_table, needs_delay, as_least, LinkEnds, WrittenMessage, WrittenLink, WrittenScenario, WrittenTarget, message_of_table, messages_of, link_of_table, links_of, places_of_table, written_target, written_of_table}
 use Rattle.convoy_toml_writer.specs.WrittenTextLaws.{ranks_for}
-use Rattle.convoy_toml_writer.proofs.Document.{number, some_tables, time_data, least_data, tick_data, order_data, head_of, link_table, message_table, target_table, document_table}
+use Rattle.convoy_toml_writer.proofs.Document.{number, names_data, stamps_data, until_data, some_tables, time_data, least_data, tick_data, order_data, places_data, head_of, link_row, message_row, link_table, message_table, target_table, document_table}
 use Rattle.convoy_toml_writer.proofs.Durations.{duration_text}
-use Rattle.convoy_toml_writer.proofs.Looked.{delay_found, least_found, groups_found, time_found, tick_found, order_found, schedule_found, target_found, messages_found, links_found, group_found, only_known}
+use Rattle.convoy_toml_writer.proofs.Looked.{delay_found, least_found, groups_found, places_found, time_found, tick_found, order_found, schedule_found, target_found, messages_found, links_found, group_found, only_known}
 
 -- ---- one key
 
@@ -55,6 +53,10 @@ all_given : {A B : Type 0} (kind : Data → Option B) (data_of : A → Data) (gi
 all_given kind data_of given [] each = refl
 all_given kind data_of given (x ∷ xs) each = rw (each x, all_given kind data_of given xs each) refl
 
+-- texts give what they are
+strings_given : (names : List (List ℕ)) → all_of as_str (items_of (map string names)) ≡ Some names
+strings_given names = all_given as_str string (λ name. name) names (λ name. refl) ∙ ap Some (map-id names)
+
 -- ---- messages and links
 
 -- the last time at which a message may be issued, where that is written
@@ -71,22 +73,27 @@ written_message scenario message = record {
   within = None;
 }
 
+-- where one link leads
+abbrev pub written_ends : Option (List ℕ) → List ℕ → LinkEnds
+written_ends sender to = record { senders = option_map (λ name. name ∷ []) sender; to = to ∷ []; both = false }
+
 abbrev pub written_link : Scenario → ScenarioLink → WrittenLink
 written_link scenario link = record {
-  ends = record { senders = option_map (λ name. name ∷ []) (sender_name scenario link.sender); to = group_name_at scenario link.to ∷ []; both = false };
+  ends = written_ends (sender_name scenario link.sender) (group_name_at scenario link.to);
   least = Count (pos link.least);
   most = Count (pos link.most);
   stamps = link.stamps;
 }
 
 message_shaped : (time : AnyTime) (scenario : Scenario) (message : Message) → message_of_table time (message_table scenario message) ≡ Ok (written_message scenario message)
-message_shaped time scenario message = by_sender message.sender where
-  to_given : all_of as_str (items_of (map (λ g. string (group_name_at scenario g)) message.destinations)) ≡ Some (map (group_name_at scenario) message.destinations)
-  to_given = all_given as_str (λ (g : ℕ). string (group_name_at scenario g)) (group_name_at scenario) message.destinations (λ g. refl)
+message_shaped time scenario message = by_sender (sender_name scenario message.sender) where
+  to_given : all_of as_str (items_of (map string (map (group_name_at scenario) message.destinations))) ≡ Some (map (group_name_at scenario) message.destinations)
+  to_given = strings_given (map (group_name_at scenario) message.destinations)
 
-  by_sender : (sender : Sender) → message_of_table time (message_table scenario (record message { sender = sender })) ≡ Ok (written_message scenario (record message { sender = sender }))
-  by_sender Client = elim (cases_Bool (may_wait message)) [ inl waits ↦ rw (waits, to_given) refl | inr known ↦ rw (known, to_given) refl ]
-  by_sender (Group g) = elim (cases_Bool (may_wait message)) [ inl waits ↦ rw (waits, to_given) refl | inr known ↦ rw (known, to_given) refl ]
+  by_sender : (sender : Option (List ℕ)) → message_of_table time (message_row (number message.at) (option_map string sender) (string message.name) (names_data scenario message.destinations) (until_data message))
+      ≡ Ok (record (written_message scenario message) { sender = sender })
+  by_sender None = elim (cases_Bool (may_wait message)) [ inl waits ↦ rw (waits, to_given) refl | inr known ↦ rw (known, to_given) refl ]
+  by_sender (Some name) = elim (cases_Bool (may_wait message)) [ inl waits ↦ rw (waits, to_given) refl | inr known ↦ rw (known, to_given) refl ]
 
 messages_shaped : (time : AnyTime) (scenario : Scenario) (messages : List Message) → messages_of time (map (message_table scenario) messages) ≡ Ok (map (written_message scenario) messages)
 messages_shaped time scenario [] = refl
@@ -94,12 +101,13 @@ messages_shaped time scenario (m ∷ ms) = rw (message_shaped time scenario m, m
 
 link_shaped : (time : AnyTime) (scenario : Scenario) (link : ScenarioLink) → link_of_table time (link_table scenario link) ≡ Ok (written_link scenario link)
 unfolding link_of_table
-link_shaped time scenario link = by_sender link.sender link.stamps where
-  by_sender : (sender : Sender) (stamps : Bool) → link_of_table time (link_table scenario (record link { sender = sender; stamps = stamps })) ≡ Ok (written_link scenario (record link { sender = sender; stamps = stamps }))
-  by_sender Client true = refl
-  by_sender Client false = refl
-  by_sender (Group g) true = refl
-  by_sender (Group g) false = refl
+link_shaped time scenario link = by_sender (sender_name scenario link.sender) link.stamps where
+  by_sender : (sender : Option (List ℕ)) (stamps : Bool) → link_of_table time (link_row (option_map string sender) (number link.least) (number link.most) (stamps_data stamps) (string (group_name_at scenario link.to)))
+      ≡ Ok (record { ends = written_ends sender (group_name_at scenario link.to); least = Count (pos link.least); most = Count (pos link.most); stamps = stamps })
+  by_sender None true = refl
+  by_sender None false = refl
+  by_sender (Some name) true = refl
+  by_sender (Some name) false = refl
 
 links_shaped : (time : AnyTime) (scenario : Scenario) (links : List ScenarioLink) → links_of time (map (link_table scenario) links) ≡ Ok (map (written_link scenario) links)
 links_shaped time scenario [] = refl
@@ -148,6 +156,10 @@ tick_shaped time (Some tick) rows is e =
     let kind : as_tick Real (string (duration_text tick)) ≡ Some tick = rw (is.read, le-leb 1 tick is.some) refl in
     wish_found Tick (as_tick time) rows (string (duration_text tick)) tick e (rw (is.real) kind)
 
+places_shaped : (places : List (List ℕ)) (rows : Members) → get_member (codes "places") rows ≡ places_data places → places_of_table rows ≡ Ok places
+places_shaped [] rows e = rw (wish_all_none Places as_str rows e) refl
+places_shaped (place ∷ places) rows e = rw (wish_all_found Places as_str rows _ (place ∷ places) e (strings_given (place ∷ places))) refl
+
 order_shaped : (scenario : Scenario) (order : ScenarioOrder) (rows : Members) → get_member (codes "order") rows ≡ order_data scenario order → wish_all Order as_integer rows ≡ Ok (ranks_for scenario order)
 order_shaped scenario order rows e =
     elim (cases_Bool (is_no_order order)) [
@@ -165,6 +177,7 @@ written_scenario scenario = record {
   delay = Some (Count (pos scenario.delay));
   least = written_least scenario.time;
   groups = scenario.groups;
+  places = scenario.places;
   links = map (written_link scenario) scenario.links;
   agreements = [];
   messages = map (written_message scenario) scenario.multicasts;
@@ -174,15 +187,15 @@ written_scenario scenario = record {
 
 -- step by step, from what each key gives
 in_steps : (rows : Members) (scenario : WrittenScenario) (message_rows : List Members) (target : WrittenTarget) (schedule order : Option (List ℤ)) (rows_of_links : Option (List Members))
-    → time_of_table rows ≡ Ok scenario.time → wish Tick (as_tick scenario.time) rows ≡ Ok scenario.tick → delay_of_table scenario.time rows ≡ Ok scenario.delay → wish Least (as_least scenario.time) rows ≡ Ok scenario.least → need_all Groups as_str rows ≡ Ok scenario.groups
+    → time_of_table rows ≡ Ok scenario.time → wish Tick (as_tick scenario.time) rows ≡ Ok scenario.tick → delay_of_table scenario.time rows ≡ Ok scenario.delay → wish Least (as_least scenario.time) rows ≡ Ok scenario.least → need_all Groups as_str rows ≡ Ok scenario.groups → places_of_table rows ≡ Ok scenario.places
     → need_all Multicast as_table rows ≡ Ok message_rows → messages_of scenario.time message_rows ≡ Ok scenario.messages → written_target rows ≡ Ok target
     → wish_all Link as_table rows ≡ Ok rows_of_links → links_of scenario.time (unwrap_or rows_of_links []) ≡ Ok scenario.links
     → get_member (codes "group") rows ≡ None
-    → wish_all Schedule as_integer rows ≡ Ok schedule → wish_all Order as_integer rows ≡ Ok order → has_only (Time ∷ Tick ∷ Delay ∷ Least ∷ Groups ∷ Multicast ∷ Target ∷ Link ∷ key.Group ∷ Schedule ∷ Order ∷ []) rows ≡ true
+    → wish_all Schedule as_integer rows ≡ Ok schedule → wish_all Order as_integer rows ≡ Ok order → has_only (Time ∷ Tick ∷ Delay ∷ Least ∷ Groups ∷ Places ∷ Multicast ∷ Target ∷ Link ∷ key.Group ∷ Schedule ∷ Order ∷ []) rows ≡ true
     → target.message ≡ scenario.target_message → target.group ≡ scenario.target_group
     → written_of_table Required rows ≡ Ok (record { scenario = record scenario { agreements = [] }; schedule = schedule; order = order })
-in_steps rows scenario message_rows target schedule order rows_of_links time tick delay least groups tables_there messages target_there links_there links no_groups scheduled ordered known named at_group =
-    rw (time, tick, delay, least, groups, tables_there, messages, target_there, links_there, links, no_groups, scheduled, ordered, known, named, at_group) refl
+in_steps rows scenario message_rows target schedule order rows_of_links time tick delay least groups places tables_there messages target_there links_there links no_groups scheduled ordered known named at_group =
+    rw (time, tick, delay, least, groups, places, tables_there, messages, target_there, links_there, links, no_groups, scheduled, ordered, known, named, at_group) refl
 
 -- what is written in the document's table
 pub document_shaped : (scenario : Scenario) (schedule : ScenarioSchedule) (first_message : Message) (others : List Message) → scenario.multicasts ≡ first_message ∷ others → IfSome scenario.tick (IsReadable scenario.time)
@@ -202,7 +215,8 @@ document_shaped scenario schedule first_message others some tick =
     (tick_shaped scenario.time scenario.tick rows tick (tick_found head links messages target))
     (delay_shaped scenario.time scenario.delay rows (delay_found head links messages target))
     (least_shaped scenario.time rows (least_found head links messages target))
-    (need_all_found Groups as_str rows _ scenario.groups (groups_found head links messages target) (all_given as_str string (λ name. name) scenario.groups (λ name. refl) ∙ ap Some (map-id scenario.groups)))
+    (need_all_found Groups as_str rows _ scenario.groups (groups_found head links messages target) (strings_given scenario.groups))
+    (places_shaped scenario.places rows (places_found head links messages target))
     (tables_needed rows (message_table scenario first_message) (map (message_table scenario) others) (messages_found head links messages target ∙ message_rows) ∙ ap Ok (sym same_rows))
     (messages_shaped scenario.time scenario scenario.multicasts)
     (need_target rows target (target_found head links messages target) refl)

@@ -1,5 +1,5 @@
 -- A well-formed scenario with one of its assignments has names and numbers that a text can say.
-use Rattle.std.proofs.Common.{◌≡◌, ℕ, zero, suc, ◌<◌, ◌≤◌, ◌^◌, true, not, ◌&&◌, nat_le, List, [], ◌∷◌, ◌++◌, length, map, codes, decimal, get_or, Option, Some, None, refl, ◌∙◌, arith, IfSome, IsTrue}
+use Rattle.std.proofs.Common.{◌≡◌, ℕ, zero, suc, ◌-◌, ◌<◌, ◌≤◌, ◌==◌, ◌^◌, Bool, true, false, if◌then◌else◌, not, ◌&&◌, nat_le, List, [], ◌∷◌, ◌++◌, length, map, codes, decimal, get_or, Option, Some, None, refl, ◌∙◌, arith, IfSome, IsTrue}
 use Rattle.std.specs.List.{list_all, AllByRecursion, AllZip}
 use Rattle.std.specs.Str.{bytes_eq}
 use Rattle.std.proofs.lemmas.Bool.{and_parts, leb-true, false≢true}
@@ -10,7 +10,10 @@ use Rattle.convoy_draft.specs.declared.duration.TheConstants.{LONGEST_DURATION, 
 use Rattle.convoy_draft.specs.declared.time.Time.{Time}
 use Rattle.convoy_draft.specs.declared.time.Time.TheVariants.{Ticks, Real}
 use Rattle.convoy_draft.specs.Durations.{count_of, unit_of, unit_word}
-use Rattle.convoy_scenario.specs.Scenario.{Link, Message, Scenario, no_message}
+use Rattle.convoy_scenario.specs.declared.sender.Sender.{Sender}
+use Rattle.convoy_scenario.specs.declared.sender.Sender.TheVariants.{Client, Group}
+use Rattle.convoy_scenario.specs.Naming.{sender_name}
+use Rattle.convoy_scenario.specs.Scenario.{Link, Message, Scenario, no_message, place_name_at}
 use Rattle.convoy_scenario.specs.WellFormed.{IsLink, IsMulticast, IsScenario}
 use Rattle.convoy_draft.specs.Names.{client_word, is_group_name, is_letter, is_name, is_name_byte}
 use Rattle.convoy_draft.specs.Limits.{is_tick}
@@ -54,6 +57,14 @@ name_there : (names : List (List ℕ)) (g : ℕ) → AllByRecursion (λ name. ar
 name_there [] g h = refl
 name_there (name ∷ names) zero h = h.0
 name_there (name ∷ names) (suc g) h = name_there names g h.1
+
+-- the name of a sender, where it has one
+sender_plain : (scenario : Scenario) → AllByRecursion (λ name. are_plain name ≡ true) scenario.groups → AllByRecursion (λ name. are_plain name ≡ true) scenario.places → (sender : Sender) → IfSome (sender_name scenario sender) (λ name. are_plain name ≡ true)
+sender_plain scenario groups places (Client p) = by_test (p == 0) where
+  by_test : (none : Bool) → IfSome (if none then None else Some (place_name_at scenario p)) (λ name. are_plain name ≡ true)
+  by_test true = tt
+  by_test false = name_there scenario.places (p - 1) places
+sender_plain scenario groups places (Group g) = name_there scenario.groups g groups
 
 message_there : (messages : List Message) (m : ℕ) → AllByRecursion IsWritableMessage messages → are_plain (get_or messages m no_message).name ≡ true
 message_there [] m h = refl
@@ -109,23 +120,26 @@ assigned_small : (scenario : Scenario) (schedule : Schedule) → IsScenario scen
 unfolding ranges_of
 assigned_small scenario schedule is assigned = delays_small scenario (packets_of scenario) schedule.delays is assigned.delays
 
-link_writable : (scenario : Scenario) (link : Link) → IsScenario scenario → IsLink (length scenario.groups) scenario.delay link → IsWritableLink link
+link_writable : (scenario : Scenario) (link : Link) → IsScenario scenario → IsLink (length scenario.groups) (length scenario.places) scenario.delay link → IsWritableLink link
 link_writable scenario link is h = record { least = omega (arith, h.ordered, h.high, is.delay_high); most = omega (arith, h.high, is.delay_high) }
 
-message_writable : (groups : ℕ) (message : Message) → IsMulticast groups message → IsWritableMessage message
-message_writable groups message h = record { name = name_plain message.name h.name; at = omega (arith, h.at); until = omega (arith, h.at, h.wait) }
+message_writable : (groups places : ℕ) (message : Message) → IsMulticast groups places message → IsWritableMessage message
+message_writable groups places message h = record { name = name_plain message.name h.name; at = omega (arith, h.at); until = omega (arith, h.at, h.wait) }
 
 -- all that the text asks
 pub writable : (scenario : Scenario) (schedule : Schedule) → IsScenario scenario → IsAssignment scenario schedule → AreRanks (ranks_of scenario schedule.order) → IsWritable scenario schedule
 writable scenario schedule is assigned ranks =
     let names = each scenario.groups group_plain (recursion_from_All (λ name. IsTrue (is_group_name name)) scenario.groups is.group_names) in
-    let messages = each scenario.multicasts (message_writable (length scenario.groups)) (recursion_from_All (IsMulticast (length scenario.groups)) scenario.multicasts is.messages) in
+    let messages = each scenario.multicasts (message_writable (length scenario.groups) (length scenario.places)) (recursion_from_All (IsMulticast (length scenario.groups) (length scenario.places)) scenario.multicasts is.messages) in
+    let places = each scenario.places group_plain (recursion_from_All (λ name. IsTrue (is_group_name name)) scenario.places is.place_names) in
     record {
       tick = if_some scenario.tick (λ t known. known.plain) (tick_told scenario.time scenario.tick is.tick);
       delay = omega (arith, is.delay_high);
       groups = names;
       group_names = λ g. name_there scenario.groups g names;
-      links = each scenario.links (λ link h. link_writable scenario link is h) (recursion_from_All (IsLink (length scenario.groups) scenario.delay) scenario.links is.links);
+      places = places;
+      senders = sender_plain scenario names places;
+      links = each scenario.links (λ link h. link_writable scenario link is h) (recursion_from_All (IsLink (length scenario.groups) (length scenario.places) scenario.delay) scenario.links is.links);
       messages = messages;
       target = message_there scenario.multicasts scenario.target_message messages;
       delays = assigned_small scenario schedule is assigned;

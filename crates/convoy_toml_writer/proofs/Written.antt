@@ -1,5 +1,5 @@
 -- The text of a scenario with a schedule has the lines of its document.
-use Rattle.std.proofs.Common.{◌≡◌, ℕ, ◌+◌, ◌<◌, ◌^◌, Bool, true, false, List, [], ◌∷◌, ◌++◌, codes, decimal, Option, Some, None, refl, append_assoc, arith, IfSome, inl, inr}
+use Rattle.std.proofs.Common.{◌≡◌, ℕ, ◌+◌, ◌<◌, ◌^◌, Bool, true, false, List, [], ◌∷◌, ◌++◌, map, codes, decimal, Option, Some, None, option_map, refl, append_assoc, arith, IfSome, inl, inr}
 use Rattle.std.specs.Fmt.{digits}
 use Rattle.std.specs.List.{AllByRecursion}
 use Rattle.std.proofs.lemmas.Bool.{cases_Bool}
@@ -7,20 +7,20 @@ use Rattle.toml.specs.Data.{Data, string, boolean}
 use Rattle.toml.specs.Tables.{Expression, std_table}
 use Rattle.toml.specs.Text.{IsValueText}
 use Rattle.convoy_scenario.specs.declared.sender.Sender.{Sender}
-use Rattle.convoy_scenario.specs.declared.sender.Sender.TheVariants.{Client, Group}
 use Rattle.convoy_draft.specs.declared.time.Time.{Time}
 use Rattle.convoy_draft.specs.declared.time.Time.TheVariants.{Ticks, Real}
 use Rattle.convoy_draft.specs.Durations.{count_of, unit_of, unit_word}
+use Rattle.convoy_scenario.specs.Naming.{sender_name}
 use Rattle.convoy_scenario.specs.Scenario.{Link, Message, Scenario, group_name_at, may_wait, message_at}
 use Rattle.convoy_packets.specs.Assignment.{Schedule}
 use Rattle.convoy_packets.specs.Order.{Order}
 use Rattle.convoy_packets.specs.OrderLists.{is_no_order, ranks_of}
-use Rattle.convoy_toml_writer.specs.Text.{quoted, time_text, least_text, tick_text, order_text, head_text, sender_text, link_text, stamps_text, until_text, message_text, target_text, toml_text}
+use Rattle.convoy_toml_writer.specs.Text.{names_text, quoted, time_text, least_text, tick_text, order_text, places_text, lists_text, head_text, sender_text, link_text, stamps_text, until_text, message_text, target_text, toml_text}
 use Rattle.convoy_toml_writer.proofs.Plain.{are_plain}
 use Rattle.convoy_toml_writer.proofs.Durations.{duration_text}
 use Rattle.convoy_toml_writer.proofs.Items.{each}
-use Rattle.convoy_toml_writer.proofs.Document.{number, pair, with_pair, pair_lines, array_lines, time_data, least_data, tick_data, order_data, sender_data, stamps_data, until_data, head_of, head_pairs, link_pairs, message_pairs, target_pairs, document_lines}
-use Rattle.convoy_toml_writer.proofs.Lines.{AreLines, no_lines, number_text, name_text, numbers_are, names_are, AreWords, pair_line, text_line, array_line, array_header, table_header, more_lines, all_lines}
+use Rattle.convoy_toml_writer.proofs.Document.{number, pair, with_pair, pair_lines, array_lines, time_data, least_data, tick_data, order_data, places_data, stamps_data, until_data, head_of, head_pairs, link_pairs, message_pairs, target_pairs, document_lines}
+use Rattle.convoy_toml_writer.proofs.Lines.{AreLines, no_lines, number_text, numbers_are, names_are, pair_line, text_line, array_line, array_header, table_header, more_lines, all_lines}
 
 -- numbers of 32 bits
 abbrev pub AreSmall : List ℕ → Type 0
@@ -41,6 +41,8 @@ pub record IsWritable (scenario : Scenario) (schedule : Schedule) : Type 0 where
   pub delay : scenario.delay < 2 ^ 32
   pub groups : AllByRecursion (λ name. are_plain name ≡ true) scenario.groups
   pub group_names : (g : ℕ) → are_plain (group_name_at scenario g) ≡ true
+  pub places : AllByRecursion (λ name. are_plain name ≡ true) scenario.places
+  pub senders : (sender : Sender) → IfSome (sender_name scenario sender) (λ name. are_plain name ≡ true)
   pub links : AllByRecursion IsWritableLink scenario.links
   pub messages : AllByRecursion IsWritableMessage scenario.multicasts
   pub target : are_plain (message_at scenario scenario.target_message).name ≡ true
@@ -77,25 +79,33 @@ order_line scenario order small =
       | inr some ↦ rw some (array_line number decimal true (codes "order") [] (ranks_of scenario order) [] refl (numbers_are (ranks_of scenario order) small) no_lines)
     ]
 
+places_line : (places : List (List ℕ)) (rest : List ℕ) (es : List Expression) → AllByRecursion (λ name. are_plain name ≡ true) places → AreLines true es rest
+    → AreLines true (with_pair (codes "places") (places_data places) es) (places_text places ++ rest)
+unfolding places_text
+places_line [] rest es plain more = more
+places_line (place ∷ places) rest es plain more =
+    let parts = append_assoc (names_text (place ∷ places)) (codes "]\n") rest in
+    rw parts (array_line string quoted true (codes "places") rest (place ∷ places) es refl (names_are (place ∷ places) plain) more)
+
 head_lines : (scenario : Scenario) (schedule : Schedule) → IsWritable scenario schedule → AreLines true (pair_lines (head_pairs (head_of scenario schedule))) (head_text scenario schedule)
-unfolding head_text
+unfolding head_text lists_text
 head_lines scenario schedule is =
     let after_schedule = order_line scenario schedule.order is.ranks in
     let after_groups = array_line number decimal true (codes "schedule") (order_text scenario schedule.order) schedule.delays _ refl (numbers_are schedule.delays is.delays) after_schedule in
-    let after_least = array_line string quoted true (codes "groups") _ scenario.groups _ refl (names_are scenario.groups is.groups) after_groups in
+    let after_least = array_line string quoted true (codes "groups") _ scenario.groups _ refl (names_are scenario.groups is.groups) (places_line scenario.places _ _ is.places after_groups) in
     let after_delay = least_line scenario.time _ _ after_least in
     let after_tick = pair_line true (codes "delay") (decimal scenario.delay) _ (number scenario.delay) _ refl (number_text scenario.delay is.delay) after_delay in
     time_line scenario.time _ _ (tick_line scenario.tick _ _ is.tick after_tick)
 
 -- ---- tables
 
-sender_line : (scenario : Scenario) (sender : Sender) (rest : List ℕ) (es : List Expression) → ((g : ℕ) → are_plain (group_name_at scenario g) ≡ true) → AreLines true es rest
-    → AreLines true (with_pair (codes "from") (sender_data scenario sender) es) (sender_text scenario sender ++ rest)
+sender_line : (sender : Option (List ℕ)) (rest : List ℕ) (es : List Expression) → IfSome sender (λ name. are_plain name ≡ true) → AreLines true es rest
+    → AreLines true (with_pair (codes "from") (option_map string sender) es) (sender_text sender ++ rest)
 unfolding sender_text
-sender_line scenario Client rest es plain more = more
-sender_line scenario (Group g) rest es plain more =
-    let parts = append_assoc (group_name_at scenario g) (codes "\"\n") rest in
-    rw parts (text_line true (codes "from") (group_name_at scenario g) rest es refl (plain g) more)
+sender_line None rest es plain more = more
+sender_line (Some name) rest es plain more =
+    let parts = append_assoc name (codes "\"\n") rest in
+    rw parts (text_line true (codes "from") name rest es refl plain more)
 
 -- the text of a truth value
 flag_text : IsValueText false (boolean true) (codes "true")
@@ -105,14 +115,14 @@ stamps_line : (stamps : Bool) → AreLines true (with_pair (codes "stamps") (sta
 stamps_line true = pair_line true (codes "stamps") (codes "true") [] (boolean true) [] refl flag_text no_lines
 stamps_line false = no_lines
 
-link_lines : (scenario : Scenario) (link : Link) → ((g : ℕ) → are_plain (group_name_at scenario g) ≡ true) → IsWritableLink link
+link_lines : (scenario : Scenario) (link : Link) → ((g : ℕ) → are_plain (group_name_at scenario g) ≡ true) → IfSome (sender_name scenario link.sender) (λ name. are_plain name ≡ true) → IsWritableLink link
     → AreLines true (array_lines (codes "link") (link_pairs scenario link)) (link_text scenario link)
 unfolding link_text
-link_lines scenario link plain is =
+link_lines scenario link plain sender is =
     let after_least = pair_line true (codes "most") (decimal link.most) _ (number link.most) _ refl (number_text link.most is.most) (stamps_line link.stamps) in
     let after_to = pair_line true (codes "least") (decimal link.least) _ (number link.least) _ refl (number_text link.least is.least) after_least in
     let after_from = text_line true (codes "to") (group_name_at scenario link.to) _ _ refl (plain link.to) after_to in
-    array_header (codes "link") _ _ refl (sender_line scenario link.sender _ _ plain after_from)
+    array_header (codes "link") _ _ refl (sender_line (sender_name scenario link.sender) _ _ sender after_from)
 
 until_line : (message : Message) → IsWritableMessage message → AreLines true (with_pair (codes "until") (until_data message) []) (until_text message)
 unfolding until_text
@@ -123,18 +133,20 @@ until_line message is =
       | inr known ↦ rw known no_lines
     ]
 
-message_lines : (scenario : Scenario) (message : Message) → ((g : ℕ) → are_plain (group_name_at scenario g) ≡ true) → IsWritableMessage message
+-- the names of some groups
+pub all_plain : (scenario : Scenario) → ((g : ℕ) → are_plain (group_name_at scenario g) ≡ true) → (groups : List ℕ) → AllByRecursion (λ name. are_plain name ≡ true) (map (group_name_at scenario) groups)
+all_plain scenario plain [] = tt
+all_plain scenario plain (g ∷ gs) = (plain g, all_plain scenario plain gs)
+
+message_lines : (scenario : Scenario) (message : Message) → ((g : ℕ) → are_plain (group_name_at scenario g) ≡ true) → IfSome (sender_name scenario message.sender) (λ name. are_plain name ≡ true) → IsWritableMessage message
     → AreLines true (array_lines (codes "multicast") (message_pairs scenario message)) (message_text scenario message)
 unfolding message_text
-message_lines scenario message plain is =
+message_lines scenario message plain sender is =
     let after_to = pair_line true (codes "at") (decimal message.at) _ (number message.at) _ refl (number_text message.at is.at) (until_line message is) in
-    let after_from = array_line (λ (g : ℕ). string (group_name_at scenario g)) (λ (g : ℕ). quoted (group_name_at scenario g)) true (codes "to") _ message.destinations _ refl (words message.destinations) after_to in
-    let after_name = sender_line scenario message.sender _ _ plain after_from in
+    let named = map (group_name_at scenario) message.destinations in
+    let after_from = array_line string quoted true (codes "to") _ named _ refl (names_are named (all_plain scenario plain message.destinations)) after_to in
+    let after_name = sender_line (sender_name scenario message.sender) _ _ sender after_from in
     array_header (codes "multicast") _ _ refl (text_line true (codes "name") message.name _ _ refl is.name after_name)
-  where
-    words : (groups : List ℕ) → AreWords (λ (g : ℕ). string (group_name_at scenario g)) (λ (g : ℕ). quoted (group_name_at scenario g)) groups
-    words [] = tt
-    words (g ∷ gs) = (name_text (group_name_at scenario g) (plain g), words gs)
 
 target_lines : (scenario : Scenario) → ((g : ℕ) → are_plain (group_name_at scenario g) ≡ true) → are_plain (message_at scenario scenario.target_message).name ≡ true
     → AreLines true ((([], codes "target"), std_table) ∷ pair_lines (target_pairs scenario)) (target_text scenario)
@@ -156,8 +168,8 @@ pub document_written : (scenario : Scenario) (schedule : Schedule) → IsWritabl
 unfolding toml_text
 document_written scenario schedule is =
     let name = is.group_names in
-    let messages = all_lines (λ message. array_lines (codes "multicast") (message_pairs scenario message)) (message_text scenario) scenario.multicasts (each scenario.multicasts (λ m writable. message_lines scenario m name writable) is.messages) in
-    let links = all_lines (λ link. array_lines (codes "link") (link_pairs scenario link)) (link_text scenario) scenario.links (each scenario.links (λ link writable. link_lines scenario link name writable) is.links) in
+    let messages = all_lines (λ message. array_lines (codes "multicast") (message_pairs scenario message)) (message_text scenario) scenario.multicasts (each scenario.multicasts (λ m writable. message_lines scenario m name (is.senders m.sender) writable) is.messages) in
+    let links = all_lines (λ link. array_lines (codes "link") (link_pairs scenario link)) (link_text scenario) scenario.links (each scenario.links (λ link writable. link_lines scenario link name (is.senders link.sender) writable) is.links) in
     let all = more_lines _ _ _ _ (head_lines scenario schedule is) (more_lines _ _ _ _ links (more_lines _ _ _ _ messages (target_lines scenario name is.target))) in
     let head = head_of scenario schedule in
-    from_the_start head.time head.tick head.delay (pair_lines ((codes "least", head.least) ∷ (codes "groups", Some head.groups) ∷ (codes "schedule", Some head.schedule) ∷ (codes "order", head.order) ∷ [])) _ _ all
+    from_the_start head.time head.tick head.delay (pair_lines ((codes "least", head.least) ∷ (codes "groups", Some head.groups) ∷ (codes "places", head.places) ∷ (codes "schedule", Some head.schedule) ∷ (codes "order", head.order) ∷ [])) _ _ all

@@ -1,11 +1,10 @@
 -- The text of a scenario with a schedule: a document in TOML, the one that is written of them.
 use Rattle.std.specs.Prelude.{ℕ, ◌+◌, Bool, true, false, List, [], ◌∷◌, ◌++◌, map, if◌then◌else◌, Option, Some, None, codes, decimal}
 use Rattle.std.specs.List.{flat_map}
-use Rattle.convoy_scenario.specs.declared.sender.Sender.{Sender}
-use Rattle.convoy_scenario.specs.declared.sender.Sender.TheVariants.{Client, Group}
 use Rattle.convoy_draft.specs.declared.time.Time.{Time}
 use Rattle.convoy_draft.specs.declared.time.Time.TheVariants.{Ticks, Real}
 use Rattle.convoy_draft.specs.Durations.{count_of, unit_of, unit_word}
+use Rattle.convoy_scenario.specs.Naming.{sender_name}
 use Rattle.convoy_scenario.specs.Scenario.{Link, Message, Scenario, group_name_at, may_wait, message_at}
 use Rattle.convoy_packets.specs.Assignment.{Schedule}
 use Rattle.convoy_packets.specs.Order.{Order}
@@ -24,9 +23,9 @@ listed (word ∷ words) = word ++ flat_map further words
 abbrev pub quoted : List ℕ → List ℕ
 quoted name = codes "\"" ++ (name ++ codes "\"")
 
--- names of groups, with commas between them
-abbrev pub names_text : Scenario → List ℕ → List ℕ
-names_text scenario groups = listed (map (λ g. quoted (group_name_at scenario g)) groups)
+-- names, each in quotes, with commas between them
+abbrev pub names_text : List (List ℕ) → List ℕ
+names_text names = listed (map quoted names)
 
 -- numbers, with commas between them
 abbrev pub numbers_text : List ℕ → List ℕ
@@ -51,21 +50,31 @@ tick_text (Some tick) = codes "tick = \"" ++ (decimal (count_of tick) ++ (codes 
 unfoldable pub order_text : Scenario → Order → List ℕ
 order_text scenario order = if is_no_order order then [] else codes "order = [" ++ (numbers_text (ranks_of scenario order) ++ codes "]\n")
 
--- the lines above all tables: how time goes, D and the least delay without a link, the groups, and the schedule; all times are numbers of ticks
+-- the line of the places of clients, where there are any
+unfoldable pub places_text : List (List ℕ) → List ℕ
+places_text [] = []
+places_text (place ∷ places) = codes "places = [" ++ (names_text (place ∷ places) ++ codes "]\n")
+
+-- the lines of lists above all tables: the groups, the places of clients, and the schedule
+unfoldable pub lists_text : Scenario → Schedule → List ℕ
+lists_text scenario schedule =
+    codes "groups = [" ++ (names_text scenario.groups
+    ++ (codes "]\n" ++ (places_text scenario.places
+    ++ (codes "schedule = [" ++ (numbers_text schedule.delays
+    ++ (codes "]\n" ++ order_text scenario schedule.order))))))
+
+-- the lines above all tables: how time goes, D and the least delay without a link, and those of lists; all times are numbers of ticks
 unfoldable pub head_text : Scenario → Schedule → List ℕ
 head_text scenario schedule =
     time_text scenario.time
     ++ (tick_text scenario.tick
     ++ (codes "delay = " ++ (decimal scenario.delay
-    ++ (codes "\n" ++ (least_text scenario.time
-    ++ (codes "groups = [" ++ (listed (map quoted scenario.groups)
-    ++ (codes "]\nschedule = [" ++ (numbers_text schedule.delays
-    ++ (codes "]\n" ++ order_text scenario schedule.order))))))))))
+    ++ (codes "\n" ++ (least_text scenario.time ++ lists_text scenario schedule)))))
 
--- the line of the group that sends; a client has none
-unfoldable pub sender_text : Scenario → Sender → List ℕ
-sender_text scenario Client = []
-sender_text scenario (Group g) = codes "from = \"" ++ (group_name_at scenario g ++ codes "\"\n")
+-- the line of the name of who sends; a client of no named place has none
+unfoldable pub sender_text : Option (List ℕ) → List ℕ
+sender_text None = []
+sender_text (Some name) = codes "from = \"" ++ (name ++ codes "\"\n")
 
 -- the line that says that a group's own stamps go by a link, too; others have none
 abbrev pub stamps_text : Bool → List ℕ
@@ -75,7 +84,7 @@ stamps_text false = []
 -- the table of a link, after an empty line
 unfoldable pub link_text : Scenario → Link → List ℕ
 link_text scenario link =
-    codes "\n[[link]]\n" ++ (sender_text scenario link.sender
+    codes "\n[[link]]\n" ++ (sender_text (sender_name scenario link.sender)
     ++ (codes "to = \"" ++ (group_name_at scenario link.to
     ++ (codes "\"\nleast = " ++ (decimal link.least
     ++ (codes "\nmost = " ++ (decimal link.most
@@ -89,8 +98,8 @@ until_text message = if may_wait message then codes "until = " ++ (decimal (mess
 unfoldable pub message_text : Scenario → Message → List ℕ
 message_text scenario message =
     codes "\n[[multicast]]\nname = \"" ++ (message.name
-    ++ (codes "\"\n" ++ (sender_text scenario message.sender
-    ++ (codes "to = [" ++ (names_text scenario message.destinations
+    ++ (codes "\"\n" ++ (sender_text (sender_name scenario message.sender)
+    ++ (codes "to = [" ++ (names_text (map (group_name_at scenario) message.destinations)
     ++ (codes "]\nat = " ++ (decimal message.at
     ++ (codes "\n" ++ until_text message))))))))
 

@@ -2,11 +2,9 @@
 
 ghost use Rattle.std.specs.Prelude.{◌≡◌, ◌++◌, map, decimal, IfOk, string_bytes};
 ghost use Rattle.std.specs.List.{flat_map};
-ghost use Rattle.convoy_scenario.specs.Scenario.{group_name_at};
-ghost use Rattle.convoy_toml_writer.specs.Text.{further, listed, names_text, numbers_text, quoted};
+ghost use Rattle.convoy_toml_writer.specs.Text.{further, names_text, numbers_text, quoted};
 
-use convoy_scenario::Scenario;
-use convoy_scenario::naming::group_name;
+use convoy_scenario::Name;
 use std::alloc::{AllocError, Global};
 
 /// Numbers, with commas between them.
@@ -35,50 +33,27 @@ fn with_further_numbers(
     Ok(text)
 }
 
-/// The names of groups, each in quotes, with commas between them.
-pub(crate) fn names_text(
-    alloc: Global,
-    scenario: &Scenario,
-    groups: &[usize],
-) -> Result<String, AllocError>
-    ensures { IfOk result (λ text. string_bytes text ≡ names_text scenario.now groups.now) }
+/// Names, each in quotes, with commas between them.
+pub(crate) fn names_text(alloc: Global, names: &[Name]) -> Result<String, AllocError>
+    ensures { IfOk result (λ text. string_bytes text ≡ names_text names.now) }
 {
-    match groups {
+    match names {
         [] => Ok(String::new(alloc)),
         [first, rest @ ..] => {
-            let name = group_name(scenario, *first);
-            with_further_names(alloc, scenario, format!(in alloc; "\"{name}\"")?, rest)
+            let first = first.as_str();
+            with_further_names(alloc, format!(in alloc; "\"{first}\"")?, rest)
         }
     }
 }
 
-/// A text with the names of further groups after it.
-fn with_further_names(
-    alloc: Global,
-    scenario: &Scenario,
-    mut text: String,
-    groups: &[usize],
-) -> Result<String, AllocError>
-    ensures { IfOk result (λ longer. string_bytes longer ≡ string_bytes text
-        ++ flat_map further (map (λ g. quoted (group_name_at scenario.now g)) groups.now)) }
+/// A text with further names after it, each in quotes.
+fn with_further_names(alloc: Global, mut text: String, names: &[Name]) -> Result<String, AllocError>
+    ensures { IfOk result (λ longer. string_bytes longer
+        ≡ string_bytes text ++ flat_map further (map quoted names.now)) }
 {
-    for group in groups {
-        let name = group_name(scenario, *group);
-        let word = format!(in alloc; ", \"{name}\"")?;
-        text.push_str(word.as_str())?;
-    }
-    Ok(text)
-}
-
-/// The names of all groups, each in quotes, with commas between them.
-pub(crate) fn all_names_text(alloc: Global, scenario: &Scenario) -> Result<String, AllocError>
-    ensures { IfOk result (λ text. string_bytes text ≡ listed (map quoted scenario.now.groups)) }
-{
-    let first = group_name(scenario, 0);
-    let mut text = format!(in alloc; "\"{first}\"")?;
-    for group in 1..scenario.group_count() {
-        let name = scenario.group_name(group);
-        let word = format!(in alloc; ", \"{name}\"")?;
+    for name in names {
+        let further = name.as_str();
+        let word = format!(in alloc; ", \"{further}\"")?;
         text.push_str(word.as_str())?;
     }
     Ok(text)

@@ -1,12 +1,16 @@
-ghost use Rattle.std.specs.Prelude.{◌≡◌, ◌++◌, ◌<◌, length, IfOk, OnErr, OnOk, string_bytes};
+ghost use Rattle.std.specs.Prelude.{◌≡◌, ◌++◌, ◌<◌, length, map, IfOk, OnErr, OnOk, string_bytes};
 ghost use Rattle.std.specs.List.{flat_map};
-ghost use Rattle.convoy_scenario.specs.Scenario.{message_at};
+ghost use Rattle.convoy_scenario.specs.Naming.{sender_name};
+ghost use Rattle.convoy_scenario.specs.Scenario.{group_name_at, message_at};
 ghost use Rattle.convoy_toml_writer.specs.Text.{
   head_text,
   least_text,
   link_text,
+  lists_text,
   message_text,
+  names_text,
   order_text,
+  places_text,
   sender_text,
   stamps_text,
   target_text,
@@ -16,10 +20,12 @@ ghost use Rattle.convoy_toml_writer.specs.Text.{
   until_text,
 };
 
-use super::lists::{all_names_text, names_text, numbers_text};
+use super::lists::{names_text, numbers_text};
 use convoy_packets::{Order, Schedule};
-use convoy_scenario::naming::group_name;
-use convoy_scenario::{Duration, Link, Scenario, Sender, Time};
+use convoy_scenario::naming::{
+    draft_destinations, draft_groups, draft_places, draft_sender, group_name,
+};
+use convoy_scenario::{Duration, Link, Name, Scenario, Sender, Time};
 use std::alloc::{AllocError, Global};
 
 /// Appends the text of a scenario with a schedule, which reads as that scenario with that schedule
@@ -59,12 +65,20 @@ fn head_text(alloc: Global, scenario: &Scenario, schedule: &Schedule) -> Result<
     let tick = tick_text(alloc, scenario.tick())?;
     let delay = scenario.delay();
     let least = least_text(scenario.time());
-    let groups = all_names_text(alloc, scenario)?;
+    let lists = lists_text(alloc, scenario, schedule)?;
+    format!(in alloc; "{time}{tick}delay = {delay}\n{least}{lists}")
+}
+
+/// The lines of lists above all tables.
+#[tactic(auto, unfolding(crate::specs::Text::lists_text))]
+fn lists_text(alloc: Global, scenario: &Scenario, schedule: &Schedule) -> Result<String, AllocError>
+    ensures { IfOk result (λ text. string_bytes text ≡ lists_text scenario.now schedule.now) }
+{
+    let groups = groups_text(alloc, scenario)?;
+    let places = places_text(alloc, scenario)?;
     let delays = numbers_text(alloc, schedule.delays())?;
     let order = order_text(alloc, scenario, schedule.order())?;
-    format!(in alloc;
-        "{time}{tick}delay = {delay}\n{least}groups = [{groups}]\nschedule = [{delays}]\n{order}"
-    )
+    format!(in alloc; "groups = [{groups}]\n{places}schedule = [{delays}]\n{order}")
 }
 
 /// The line that says that time is real; whole ticks have none.
@@ -98,6 +112,36 @@ fn tick_text(alloc: Global, tick: Option<Duration>) -> Result<String, AllocError
             format!(in alloc; "tick = \"{count} {unit}\"\n")
         }
         None => Ok(String::new(alloc)),
+    }
+}
+
+/// The names of the groups, each in quotes, with commas between them.
+fn groups_text(alloc: Global, scenario: &Scenario) -> Result<String, AllocError>
+    ensures { IfOk result (λ text. string_bytes text ≡ names_text scenario.now.groups) }
+{
+    let groups = draft_groups(alloc, scenario)?;
+    names_text(alloc, &groups)
+}
+
+/// The line of the places of clients, where there are any.
+fn places_text(alloc: Global, scenario: &Scenario) -> Result<String, AllocError>
+    ensures { IfOk result (λ text. string_bytes text ≡ places_text scenario.now.places) }
+{
+    let places = draft_places(alloc, scenario)?;
+    names_line(alloc, &places)
+}
+
+/// The line of places of these names, where there are any.
+#[tactic(auto, unfolding(crate::specs::Text::places_text))]
+fn names_line(alloc: Global, places: &[Name]) -> Result<String, AllocError>
+    ensures { IfOk result (λ text. string_bytes text ≡ places_text places.now) }
+{
+    match places {
+        [] => Ok(String::new(alloc)),
+        [_, ..] => {
+            let names = names_text(alloc, places)?;
+            format!(in alloc; "places = [{names}]\n")
+        }
     }
 }
 
@@ -146,17 +190,17 @@ fn stamps_text(stamps: bool) -> &'static str
     if stamps { "stamps = true\n" } else { "" }
 }
 
-/// The line of the group that sends; a client has none.
+/// The line of the name of who sends; a client of no named place has none.
 #[tactic(auto, unfolding(crate::specs::Text::sender_text))]
 fn sender_text(alloc: Global, scenario: &Scenario, sender: Sender) -> Result<String, AllocError>
-    ensures { IfOk result (λ text. string_bytes text ≡ sender_text scenario.now sender) }
+    ensures { IfOk result (λ text. string_bytes text ≡ sender_text (sender_name scenario.now sender)) }
 {
-    match sender {
-        Sender::Client => Ok(String::new(alloc)),
-        Sender::Group(group) => {
-            let name = group_name(scenario, group);
+    match draft_sender(alloc, scenario, sender)? {
+        Some(name) => {
+            let name = name.as_str();
             format!(in alloc; "from = \"{name}\"\n")
         }
+        None => Ok(String::new(alloc)),
     }
 }
 
@@ -182,10 +226,24 @@ fn message_text(alloc: Global, scenario: &Scenario, message: usize) -> Result<St
 {
     let name = scenario.message_name(message);
     let from = sender_text(alloc, scenario, scenario.sender(message))?;
-    let to = names_text(alloc, scenario, scenario.destinations(message))?;
+    let to = destinations_text(alloc, scenario, message)?;
     let at = scenario.issue_tick(message);
     let until = until_text(alloc, scenario, message)?;
     format!(in alloc; "\n[[multicast]]\nname = \"{name}\"\n{from}to = [{to}]\nat = {at}\n{until}")
+}
+
+/// The names of the groups that a message goes to, each in quotes, with commas between them.
+fn destinations_text(
+    alloc: Global,
+    scenario: &Scenario,
+    message: usize,
+) -> Result<String, AllocError>
+    requires { message < length scenario.now.multicasts }
+    ensures { IfOk result (λ text. string_bytes text
+        ≡ names_text (map (group_name_at scenario.now) (message_at scenario.now message).destinations)) }
+{
+    let groups = draft_destinations(alloc, scenario, scenario.destinations(message))?;
+    names_text(alloc, &groups)
 }
 
 /// The line of the last tick at which a message may be issued; one whose issue is known has none.

@@ -1,7 +1,7 @@
 -- The links of a trace beside the ranges of a scenario.
 use Rattle.std.specs.Prelude.{ℕ, ◌*◌, ◌==◌, nat_lt, Bool, false, ◌||◌, if◌then◌else◌, List, [], ◌∷◌, length, map, count_by, ◌++◌, codes, Option, Some, None, option_and_then, is_some, Result, Ok, Err, Vec}
 use Rattle.std.specs.Global.{Global}
-use Rattle.std.specs.Option.{option_map}
+use Rattle.std.specs.Option.{option_map, option_or}
 use Rattle.std.specs.List.{list_any}
 use Rattle.convoy_lines.specs.Results.{◌>>=◌}
 use Rattle.convoy_draft.specs.Durations.{unit_word}
@@ -21,9 +21,12 @@ use Rattle.convoy_traces.specs.declared.fault.TraceFault.TheVariants.{NoPacket}
 use Rattle.convoy_trace_ranges.specs.Cells.{place_word, time_cell}
 use Rattle.convoy_trace_ranges.specs.Links.{Link, links_of_text}
 
--- the sender of that name, where the scenario has it: clients have no name
+-- the sender of that name, where the scenario has it: a group, or a client at the place of that name; a client of no named place has none
 abbrev pub sender_named : Scenario → List ℕ → Option Sender
-sender_named scenario from = if length from == 0 then Some Client else option_map Group (numbered 0 scenario.groups from)
+sender_named scenario from =
+    if length from == 0
+    then Some (Client 0)
+    else option_or (option_map Group (numbered 0 scenario.groups from)) (option_map Client (numbered 1 scenario.places from))
 
 -- the range of a link in ticks, where the scenario has both its ends
 abbrev pub range_by : Scenario → Link → Option (ℕ × ℕ)

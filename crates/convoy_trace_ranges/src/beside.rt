@@ -2,8 +2,11 @@
 
 ghost use Rattle.std.specs.Prelude.{◌≡◌, ◌∷◌, [], ◌++◌, ◌*◌, ◌≤◌, List, ℕ, Bool, IfOk, OnOk, map, nat_lt, ◌||◌, Result, Ok, Err, Vec};
 ghost use Rattle.std.specs.List.{list_any};
+ghost use Rattle.std.specs.Option.{option_map};
 ghost use Rattle.std.specs.Result.{result_map_both};
 ghost use Rattle.convoy_scenario.specs.Memory.{IsUnlessMemory};
+ghost use Rattle.convoy_scenario.specs.declared.sender.Sender.TheVariants.{Client};
+ghost use Rattle.convoy_traces.specs.Rows.{numbered};
 ghost use Rattle.convoy_traces.specs.declared.fault.TraceFault.TheVariants.{Memory};
 ghost use Rattle.convoy_trace_ranges.specs.Beside.{beside_told, columns, count_above, count_below, is_known, is_left, is_link_left, known_cells, unknown_cells, range_by, range_cells, row_of, sender_named, table_of, told_by, links_beside, as_told, unit_by, unit_cell};
 
@@ -13,18 +16,29 @@ use convoy_draft::{Duration, TimeUnit};
 use convoy_scenario::{Scenario, Sender};
 use convoy_tables::{Format, Row, Table, table_text};
 use convoy_times::Measure;
-use convoy_traces::{TraceFault, group_numbered};
+use convoy_traces::{TraceFault, group_numbered, place_numbered};
 use std::alloc::{AllocError, Global};
 
-/// The sender of that name, where the scenario has it: clients have no name.
+/// The sender of that name, where the scenario has it: a group, or a client at the place of that name; a client of no
+/// named place has none.
 fn sender_named(scenario: &Scenario, from: &str) -> Option<Sender>
     ensures { result ≡ sender_named scenario.now from.now }
 {
     if from.is_empty() {
-        return Some(Sender::Client);
+        return Some(Sender::Client(0));
     }
-    let group = group_numbered(scenario, from.as_bytes())?;
-    Some(Sender::Group(group))
+    match group_numbered(scenario, from.as_bytes()) {
+        Some(group) => Some(Sender::Group(group)),
+        None => client_named(scenario, from),
+    }
+}
+
+/// A client at the place of that name, where the scenario has it.
+fn client_named(scenario: &Scenario, from: &str) -> Option<Sender>
+    ensures { result ≡ option_map Client (numbered 1 scenario.now.places from.now) }
+{
+    let place = place_numbered(scenario, from.as_bytes())?;
+    Some(Sender::Client(place))
 }
 
 /// The range of a link in ticks, where the scenario has both its ends.

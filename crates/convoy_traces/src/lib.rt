@@ -7,7 +7,7 @@ pub use clock::Clock;
 pub use columns::{Columns, Head, head_of};
 pub use entries::{is_word, time_of};
 pub use fault::{Cause, LAST_TIME, MOST_STAMP, TraceFault};
-pub use numbering::group_numbered;
+pub use numbering::{group_numbered, place_numbered};
 pub use objects::row_of_object;
 pub use row::{Row, row_of_cells};
 pub use told::{Entry, Event, Stamp, Told, is_same_event};

@@ -1,4 +1,4 @@
-//! Messages and groups by their names.
+//! Messages, groups and places by their names.
 
 ghost use Rattle.std.specs.Prelude.{◌≡◌, IfSome, ◌<◌, length};
 ghost use Rattle.convoy_scenario.specs.Scenario.{is_addressed, message_at};
@@ -25,6 +25,18 @@ pub fn group_numbered(scenario: &Scenario, word: &[u8]) -> Option<usize>
     for group in 0..scenario.group_count() {
         if scenario.group_name(group).as_bytes() == word {
             return Some(group);
+        }
+    }
+    None
+}
+
+/// The number of the place of that name, as that of a client there: from 1.
+pub fn place_numbered(scenario: &Scenario, word: &[u8]) -> Option<usize>
+    ensures { result ≡ numbered 1 scenario.now.places word.now }
+{
+    for place in 0..scenario.place_count() {
+        if scenario.place_name(place).as_bytes() == word {
+            return Some(place + 1);
         }
     }
     None

@@ -3,3 +3,4 @@ pub mod Savings
 pub mod Tries
 pub mod Numbers
 pub mod Told
+mod Broken

@@ -1,5 +1,5 @@
 -- Scenarios that differ from another in one thing.
-use Rattle.std.specs.Prelude.{ℕ, ◌==◌, Bool, false, ◌&&◌, not, nat_lt, if◌then◌else◌, List, [], ◌∷◌, ◌++◌, length, map, Result}
+use Rattle.std.specs.Prelude.{ℕ, ◌+◌, ◌==◌, Bool, false, ◌&&◌, not, nat_lt, if◌then◌else◌, List, [], ◌∷◌, ◌++◌, length, map, Result}
 use Rattle.std.specs.List.{flat_map, list_any, range_with_len}
 use Rattle.convoy_draft.specs.declared.fault.ScenarioFault.{ScenarioFault}
 use Rattle.convoy_scenario.specs.declared.sender.Sender.{Sender}
@@ -54,6 +54,7 @@ changed_draft scenario change = record {
   tick = (draft_for scenario).tick;
   delay = (draft_for scenario).delay;
   groups = (draft_for scenario).groups;
+  places = (draft_for scenario).places;
   links = flat_map (links_left scenario change) scenario.links ++ map (draft_link scenario) (new_links scenario change);
   messages = flat_map (messages_left scenario change) (message_numbers scenario);
   target_message = (draft_for scenario).target_message;
@@ -87,12 +88,16 @@ link_changes scenario sender to =
 abbrev pub group_numbers : Scenario → List ℕ
 group_numbers scenario = range_with_len 0 (length scenario.groups)
 
+-- the places at which clients are: that which has no name, and those that have one
+abbrev pub client_places : Scenario → List ℕ
+client_places scenario = range_with_len 0 (length scenario.places + 1)
+
 -- the changes of the links that lead from a sender, by the group that they lead to
 abbrev pub sender_changes : Scenario → Sender → List Change
 sender_changes scenario sender = flat_map (link_changes scenario sender) (group_numbers scenario)
 
--- all changes: none, then each other message left out, and then each link narrowed, those of clients first
+-- all changes: none, then each other message left out, and then each link narrowed, those of clients first, by their places
 abbrev pub changes_of : Scenario → List Change
 changes_of scenario =
     Nothing ∷ flat_map (message_changes scenario) (message_numbers scenario)
-    ++ (sender_changes scenario Client ++ flat_map (λ g. sender_changes scenario (Group g)) (group_numbers scenario))
+    ++ (flat_map (λ p. sender_changes scenario (Client p)) (client_places scenario) ++ flat_map (λ g. sender_changes scenario (Group g)) (group_numbers scenario))

@@ -8,7 +8,7 @@ ghost use Rattle.convoy_scenario.specs.Scenario.{message_numbers};
 ghost use Rattle.convoy_what_if.specs.Changes.{changed, changed_draft, fixed_link, leaves_out, links_left, messages_left, narrows, new_links};
 
 use super::kinds::Change;
-use convoy_scenario::naming::{draft_group, draft_groups, draft_link, draft_message};
+use convoy_scenario::naming::{draft_group, draft_groups, draft_link, draft_message, draft_places};
 use convoy_scenario::{
     DraftLink, DraftMulticast, DraftScenario, Link, Name, Scenario, ScenarioFault, Sender,
 };
@@ -37,6 +37,7 @@ fn changed_draft(
         tick: scenario.tick(),
         delay: i64::from(scenario.delay()),
         groups: draft_groups(alloc, scenario)?,
+        places: draft_places(alloc, scenario)?,
         links: links_of(alloc, scenario, change)?,
         multicasts: messages_of(alloc, scenario, change)?,
         target_message: Name::new(alloc, scenario.message_name(target))?,

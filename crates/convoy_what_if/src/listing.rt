@@ -1,9 +1,9 @@
-ghost use Rattle.std.specs.Prelude.{◌≡◌, ◌++◌, ◌&&◌, ◌==◌, IfOk, OnOk};
+ghost use Rattle.std.specs.Prelude.{◌≡◌, ◌+◌, ◌++◌, ◌&&◌, ◌==◌, IfOk, OnOk, length};
 ghost use Rattle.std.specs.List.{flat_map, list_any};
-ghost use Rattle.convoy_scenario.specs.declared.sender.Sender.TheVariants.{Group};
+ghost use Rattle.convoy_scenario.specs.declared.sender.Sender.TheVariants.{Client, Group};
 ghost use Rattle.convoy_scenario.specs.Scenario.{message_numbers};
 ghost use Rattle.convoy_packets.specs.Packets.{packets_of};
-ghost use Rattle.convoy_what_if.specs.Changes.{can_narrow, changes_of, goes_between, group_numbers, link_changes, message_changes, sender_changes};
+ghost use Rattle.convoy_what_if.specs.Changes.{can_narrow, changes_of, client_places, goes_between, group_numbers, link_changes, message_changes, sender_changes};
 
 use super::kinds::Change;
 use convoy_packets::{Instance, Packet};
@@ -13,15 +13,15 @@ use std::alloc::{AllocError, Global};
 
 /// All changes that there are of a scenario (docs/CALLING.md, "Changes of one thing"): first none, then each
 /// message left out but the one of which the latency is asked, and then each link on which packets go and
-/// whose range is more than one tick, at its least and at its most. Links stand by sender, clients first,
-/// and then by the group that they lead to. Fails where memory runs out, and else never.
+/// whose range is more than one tick, at its least and at its most. Links stand by sender, clients first, by
+/// their places, and then by the group that they lead to. Fails where memory runs out, and else never.
 pub fn changes_of(alloc: Global, instance: &Instance) -> Result<Vec<Change>, AllocError>
     ensures { IfOk result (λ changes. changes.items ≡ changes_of instance.now) }
 {
     let mut changes = Vec::new(alloc);
     changes.push(Change::Nothing)?;
     push_messages(instance, &mut changes)?;
-    push_sender(instance, Sender::Client, &mut changes)?;
+    push_clients(instance, &mut changes)?;
     push_groups(instance, &mut changes)?;
     Ok(changes)
 }
@@ -48,6 +48,24 @@ fn push_message(
         changes.push(Change::Without { message })?;
     }
     Ok(())
+}
+
+/// Appends the changes of the links that lead from clients: at no named place, and at each of the places.
+fn push_clients(instance: &Instance, changes: &mut Vec<Change>) -> Result<(), AllocError>
+    ensures { OnOk result (changes.new.items
+        ≡ changes.old.items ++ flat_map (λ p. sender_changes instance.now (Client p)) (client_places instance.now)) }
+{
+    for place in 0..client_count(instance) {
+        push_sender(instance, Sender::Client(place), changes)?;
+    }
+    Ok(())
+}
+
+/// At how many places clients are, that which has no name among them.
+fn client_count(instance: &Instance) -> usize
+    ensures { result ≡ length instance.now.places + 1 }
+{
+    instance.scenario().place_count() + 1
 }
 
 /// Appends the changes of the links that lead from a group.

@@ -1,0 +1,8 @@
+pub mod CutByCauses
+mod Delivered
+pub mod Before
+pub mod WidenedCauses
+pub mod ClosedCauses
+pub mod Turns
+pub mod Told
+mod Narrowed

@@ -1,0 +1,12 @@
+use Rattle.convoy_causes.proofs.ClosedCauses.{closed_over}
+use Rattle.convoy_causes.proofs.cause_laws.closed_over_caused.Goals as goal
+
+pub returns : goal.returns
+returns c =
+    closed_over (record {
+      before = c.delivered_before.ensures;
+      widen = c.caused_runs_widen.ensures;
+      well_too = c.widened_is_scenario.ensures;
+      shift = c.runs_shift.ensures;
+      at_tick = c.issued_at_its_tick.ensures;
+    })

@@ -1,0 +1,5 @@
+use Rattle.convoy_seek.proofs.Schedules.{same_length}
+use Rattle.convoy_causes.proofs.climber.Climber.lay_best.Goals as goal
+
+pub copy_from-requires : goal.copy_from-requires
+copy_from-requires c = same_length c.args.question.now.instance.now c.args.self.now.tried c.args.self.now.best c.requires.climbing.tried c.requires.climbing.best

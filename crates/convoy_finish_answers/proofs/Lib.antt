@@ -1,0 +1,4 @@
+pub mod NoSooner
+pub mod Between
+pub mod Ended
+pub mod AcceptedTexts

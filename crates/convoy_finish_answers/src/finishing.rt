@@ -1,0 +1,51 @@
+//! The greatest latency where replicas have to answer.
+
+ghost use Rattle.std.specs.Prelude.{◌≤◌, IfOk};
+ghost use Rattle.convoy_packets.specs.Assignment.{IsAssignment};
+ghost use Rattle.convoy_sim.specs.Delivery.{latency_of};
+ghost use Rattle.convoy_finish_answers.specs.AcceptedLatencies.{IsFinishBetween};
+
+use convoy_finishes::finish_laws::latest_finishes;
+use convoy_finishes::{Ways, climb_finishes, closes_finishing, finish_latency, least_closed};
+use convoy_packets::{Instance, Schedule};
+use convoy_sim::protocol_laws::delivery_law;
+use std::alloc::{AllocError, Global};
+
+/// What the greatest latency is where replicas have to answer, in ticks: at least that of some run, and at most what no
+/// run exceeds.
+#[derive(Clone, Copy)]
+pub struct FinishLatency {
+    pub least: u32,
+    pub most: u32,
+}
+
+/// What the greatest latency of an instance's target is where each group is replicated by white box and a packet
+/// between the leader of a group and its replicas takes at most so many ticks (docs/PROTOCOL.md, "Replicated groups").
+/// Its least is sought from a schedule of the instance, by so many steps at most where some run may be later than that
+/// allows, and is no less than the latency of that schedule without replicas. Fails where memory runs out, and else
+/// never.
+pub fn finish_between(
+    alloc: Global,
+    instance: &Instance,
+    replicas: u16,
+    start: Schedule,
+    steps: u64,
+) -> Result<FinishLatency, AllocError>
+    requires assigned { IsAssignment instance.now start }
+    ensures between { IfOk result (λ found. IsFinishBetween instance.now replicas found.least found.most) }
+    ensures no_sooner { IfOk result (λ found. latency_of instance.now start ≤ found.least) }
+{
+    delivery_law();
+    latest_finishes();
+    let ways = Ways::white_box(alloc, instance.scenario(), replicas)?;
+    let latency = finish_latency(alloc, instance, &start, &ways)?;
+    if closes_finishing(alloc, instance, &ways, latency)? {
+        return Ok(FinishLatency {
+            least: latency,
+            most: latency,
+        });
+    }
+    let (_schedule, least) = climb_finishes(alloc, instance, &ways, start, steps)?;
+    let most = least_closed(alloc, instance, &ways, least)?;
+    Ok(FinishLatency { least, most })
+}

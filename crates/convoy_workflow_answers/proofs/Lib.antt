@@ -1,0 +1,2 @@
+mod Uppers
+mod Told

@@ -1,0 +1,11 @@
+-- what a reader has to know of the crates below
+pub use Rattle.convoy_causes.specs.Causes
+pub use Rattle.convoy_workflows.specs.Workflows
+pub use Rattle.convoy_workflows.specs.Reading as WorkflowTexts
+pub use Rattle.convoy_times.specs.Measures
+pub use Rattle.convoy_commands.specs.ReplyLines
+pub use Rattle.convoy_commands.specs.Verdicts
+pub use Rattle.convoy_commands.specs.Outsides
+-- what a reader has to believe: what is answered of a target where messages follow others
+pub mod WorkflowLatencies
+pub mod WorstRuns

@@ -1,0 +1,2 @@
+-- the words of keys that only workflow texts have
+pub mod Words
