@@ -3,7 +3,6 @@ use Rattle.std.specs.Prelude.{◌≡◌, ◌⊎◌, ℕ, Bool, true, false, Matc
 use Rattle.std.specs.Result.{result_map_both}
 use Rattle.convoy_streams.specs.Devices.{Answer, HasRun}
 use Rattle.convoy_streams.specs.Writes.{WritesAll, FailsWithin}
-use Rattle.convoy_scenario.specs.Scenario.{Scenario}
 use Rattle.convoy_commands.specs.declared.done.Done.{Done}
 use Rattle.convoy_commands.specs.declared.done.Done.TheVariants.{Fine, Open, Beyond, Faulty, Refused, PlanRefused, WorkflowRefused, Differs, Departs, NotChecked}
 use Rattle.convoy_commands.specs.declared.fault.Fault.{Fault}
@@ -13,7 +12,8 @@ use Rattle.convoy_commands.specs.Searches.{LatencySays}
 use Rattle.convoy_batches.specs.Batches.{IsBatchRun}
 use Rattle.convoy_task_list.specs.declared.task.Task.{Task}
 use Rattle.convoy_task_list.specs.declared.task.Task.TheVariants.{BatchTable}
-use Rattle.convoy_tasks.specs.WantedReads.{IsScenarioRead}
+use Rattle.convoy_workflow_replies.specs.declared.reference.Reference.{Reference}
+use Rattle.convoy_tasks.specs.WantedReads.{IsReferenceRead, takes_workflow}
 use Rattle.convoy_tasks.specs.Runs.{IsRun}
 use Rattle.convoy_tasks.specs.Tasks.{longest_for, task_says}
 use Rattle.convoy_arguments.specs.declared.input.Input.{Input}
@@ -56,20 +56,20 @@ status_of Memory done = 1
 abbrev pub done_of_run : Result End Fault → Result Done Fault
 done_of_run result = result_map_both (λ end. end.done) (λ fault. fault) result
 
--- what reading the scenario gives that a certificate is to be of: nothing is read where no input is named for it
-abbrev pub IsWantedRead : {S : Type 0} → (S → Answer → S → Type 0) → Option Input → S → S → Result (Option Scenario) Fault → Type 0
-IsWantedRead may_read None other new_other read = (new_other ≡ other) × (read ≡ Ok None)
-IsWantedRead may_read (Some input) other new_other read =
-    (found : Result Scenario Fault)
-    × IsScenarioRead MOST_READS may_read other new_other found
-    × (read ≡ result_map_both (λ scenario. Some scenario) (λ fault. fault) found)
+-- what reading gives that a certificate, or a trace, is to be of: nothing is read where no input is named for it
+abbrev pub IsWantedRead : {S : Type 0} → (S → Answer → S → Type 0) → Task → Option Input → S → S → Result (Option Reference) Fault → Type 0
+IsWantedRead may_read task None other new_other read = (new_other ≡ other) × (read ≡ Ok None)
+IsWantedRead may_read task (Some input) other new_other read =
+    (found : Result Reference Fault)
+    × IsReferenceRead (takes_workflow task) MOST_READS may_read other new_other found
+    × (read ≡ result_map_both (λ reference. Some reference) (λ fault. fault) found)
 
--- THE RUN OF A TASK. From the old states of the sources and the sink to the new ones a text is read and answered by the task's rule, for the scenario that was read first from the other source, where an input is named for it; if that has a fault, the run ends with it.
+-- THE RUN OF A TASK. From the old states of the sources and the sink to the new ones a text is read and answered by the task's rule, for the scenario or the workflow that was read first from the other source, where an input is named for it; if that has a fault, the run ends with it.
 abbrev pub Performs : {S K : Type 0} → (S → Answer → S → Type 0) → (K → Answer → K → Type 0) → Task → Option Input →
     S → S → S → S → K → K → Result Done Fault → Type 0
 Performs may_read may_write task named source new_source other new_other sink new_sink result =
-    (read : Result (Option Scenario) Fault)
-    × IsWantedRead may_read named other new_other read
+    (read : Result (Option Reference) Fault)
+    × IsWantedRead may_read task named other new_other read
     × MatchResult read
     (λ wanted. IsRun (longest_for task) (task_says task wanted) MOST_READS may_read may_write source new_source sink new_sink result)
     (λ fault. (new_source ≡ source) × (new_sink ≡ sink) × (result ≡ Err fault))

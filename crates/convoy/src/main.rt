@@ -22,10 +22,9 @@ use convoy_hints_run::{
     End, Finished, KeptWriter, greeting, reads_standard, tell_ended, write_line,
 };
 use convoy_progress::{Progress, Together, screen_for, several_for};
-use convoy_scenario::Scenario;
 use convoy_streams::{DeviceFailed, Sink, Source, StreamSink, hold_closed, write_all};
 use convoy_task_list::Task;
-use convoy_tasks::{Ended, read_scenario, run_task};
+use convoy_tasks::{Ended, Reference, read_reference, run_task};
 use convoy_toml::Asked;
 use ending::{FAULT, status_of};
 use obeying::open_and_obey;
@@ -140,7 +139,7 @@ fn obey<R: Threads + Wait + Sync, S: Source, K: Sink, W: PlanWatch + Sync>(
     }
 }
 
-/// Does a task, for the scenario that is wanted, if one is: that is read first. The buffer of a batch lies on the stack,
+/// Does a task, for the scenario or the workflow that is wanted, if one is: that is read first. The buffer of a batch lies on the stack,
 /// and no task is to have it there.
 #[inline(never)]
 fn perform<R: Threads + Wait + Sync, S: Source, K: Sink, W: PlanWatch + Sync>(
@@ -157,7 +156,7 @@ fn perform<R: Threads + Wait + Sync, S: Source, K: Sink, W: PlanWatch + Sync>(
     ensures { Performs S.reads K.writes task.now inputs.now.wanted
         source.old source.new other.old other.new sink.old sink.new (done_of_run result) }
 {
-    let wanted = read_wanted(alloc, &inputs.wanted, other)?;
+    let wanted = read_wanted(alloc, task, &inputs.wanted, other)?;
     let ended = run_for(rt, alloc, task, &wanted, source, sink, watches)?;
     Ok(End {
         done: ended.done,
@@ -166,26 +165,27 @@ fn perform<R: Threads + Wait + Sync, S: Source, K: Sink, W: PlanWatch + Sync>(
     })
 }
 
-/// The scenario that is wanted, where an input for it is named.
+/// The scenario or the workflow that is wanted, where an input for it is named.
 fn read_wanted<S: Source>(
     alloc: Global,
+    task: &Task,
     named: &Option<Input>,
     other: &mut S,
-) -> Result<Option<Scenario>, Fault>
-    ensures { IsWantedRead S.reads named.now other.old other.new result }
+) -> Result<Option<Reference>, Fault>
+    ensures { IsWantedRead S.reads task.now named.now other.old other.new result }
 {
     match named {
-        Some(_) => Ok(Some(read_scenario(alloc, other, MOST_READS)?)),
+        Some(_) => Ok(Some(read_reference(alloc, task, other, MOST_READS)?)),
         None => Ok(None),
     }
 }
 
-/// Does a task for that scenario.
+/// Does a task for that.
 fn run_for<R: Threads + Wait + Sync, S: Source, K: Sink, W: PlanWatch + Sync>(
     rt: &R,
     alloc: Global,
     task: &Task,
-    wanted: &Option<Scenario>,
+    wanted: &Option<Reference>,
     source: &mut S,
     sink: &mut K,
     watches: &[W],

@@ -1,5 +1,5 @@
--- In a scenario that is closed for a time no run in which messages follow their causes has a greater one.
-use Rattle.std.proofs.Common.{◌≡◌, ℕ, ◌+◌, ◌<◌, ◌==◌, Bool, cond, true, false, inl, inr, List, subst, sym, arith}
+-- Where windows say that the target is delivered within a time no run in which messages follow their causes has a greater one.
+use Rattle.std.proofs.Common.{◌≡◌, ℕ, ◌+◌, ◌<◌, ◌==◌, true, inl, inr, List, subst, sym, arith}
 use Rattle.std.proofs.lemmas.Bool.{cases_Bool, cond-false, cond-true, eqb-false, eqb-true}
 use Rattle.convoy_scenario.specs.Scenario.{Scenario, message_at}
 use Rattle.convoy_scenario.specs.WellFormed.{IsScenario}
@@ -8,8 +8,6 @@ use Rattle.convoy_scenario.specs.WidenedLaws.{WidenedIsScenario}
 use Rattle.convoy_packets.specs.Assignment.{Schedule}
 use Rattle.convoy_sim.specs.Delivery.{deliver}
 use Rattle.convoy_sim.specs.ProtocolLaws.{IssuedAtItsTick}
-use Rattle.convoy_intervals.specs.Boxes.{root_of}
-use Rattle.convoy_sure.specs.SureLaws.{WindowsEncloseMembers}
 use Rattle.convoy_origin.specs.Later.{RunsShift}
 use Rattle.convoy_origin.specs.Widened.{widened_schedule}
 use Rattle.convoy_origin.proofs.WidenedParts.{is_widened}
@@ -17,9 +15,8 @@ use Rattle.convoy_origin.proofs.WidenedRuns.{issues_later, left}
 use Rattle.convoy_causes.specs.declared.cause.Cause.{Cause}
 use Rattle.convoy_causes.specs.Causes.{AreCauses, IsCaused, IsUpperOfCaused}
 use Rattle.convoy_sure.specs.Windows.{Windows}
-use Rattle.convoy_causes.specs.CauseWindows.{EncloseCaused, all_windows, closes_caused, is_before, scenario_from, with_causes}
-use Rattle.convoy_causes.specs.CauseLaws.{CausedRunsWiden, CausesCut, ClosedForCaused, ClosedOverCaused, DeliveredBefore, MetUpperIsGreatest}
-use Rattle.convoy_causes.proofs.WidenedCauses.{causes_from}
+use Rattle.convoy_causes.specs.CauseWindows.{EncloseCaused, is_before}
+use Rattle.convoy_causes.specs.CauseLaws.{CausedRunsWiden, ClosedOverCaused, DeliveredBefore, MetUpperIsGreatest}
 
 -- the laws on which this rests
 pub record ClosingHolds : Type 0 where
@@ -72,24 +69,6 @@ module _ (laws : ClosingHolds) where
         let here : IsShown plan causes windows x most = subst (λ (s : Scenario). IsShown s causes windows x most) (cond-false (x == plan.target_message) (widened plan) plan other) (enclose, shown) in
         from_message plan causes windows x most well (elim known [ inl e ↦ absurd (eqb-false x plan.target_message other e) | inr still ↦ still ]) here
   ]
-
--- ---- the windows that are cut by causes are such
-module _ (over : ClosedOverCaused) (cut : CausesCut) (enclosing : WindowsEncloseMembers) (well_too : WidenedIsScenario) where
-  cut_enclose : (plan : Scenario) (causes : List Cause) → IsScenario plan → AreCauses plan causes → EncloseCaused plan causes (with_causes plan causes (all_windows plan))
-  cut_enclose plan causes well are schedule is = cut plan schedule causes (all_windows plan) well are is (enclosing plan (root_of plan) schedule well is.assignment.delays)
-
-  formed_from : (plan : Scenario) (x : ℕ) → IsScenario plan → IsScenario (scenario_from plan x)
-  formed_from plan x well = by_target (x == plan.target_message) where
-    by_target : (b : Bool) → IsScenario (cond b (widened plan) plan)
-    by_target true = well_too plan well
-    by_target false = well
-
-  pub closed_holds : ClosedForCaused
-  unfolding closes_caused
-  closed_holds plan causes x most well are known closed =
-      let there : Scenario = scenario_from plan x in
-      over plan causes x most (with_causes there causes (all_windows there)) well are known
-      (cut_enclose there causes (formed_from plan x well) (causes_from plan causes x are)) closed
 
 pub met_greatest : MetUpperIsGreatest
 met_greatest plan causes x latency reached upper = record { reached = reached; upper = upper }

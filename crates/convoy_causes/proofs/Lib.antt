@@ -5,4 +5,5 @@ pub mod WidenedCauses
 pub mod ClosedCauses
 pub mod Turns
 pub mod Told
-mod Narrowed
+mod NarrowedWindows
+mod Effects

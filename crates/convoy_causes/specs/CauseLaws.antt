@@ -12,7 +12,7 @@ use Rattle.convoy_origin.specs.Widened.{widened_schedule}
 use Rattle.convoy_causes.specs.declared.cause.Cause.{Cause}
 use Rattle.convoy_causes.specs.declared.event.Event.TheVariants.{Delivery}
 use Rattle.convoy_causes.specs.Causes.{AreCauses, IsCause, IsCaused, IsCausedReached, IsGreatestCaused, IsUpperOfCaused}
-use Rattle.convoy_causes.specs.CauseWindows.{EncloseCaused, FollowsToo, IsDeliveredBy, closes_caused, is_before, scenario_from, with_causes, with_effect_after, with_issue_since, with_issue_until}
+use Rattle.convoy_causes.specs.CauseWindows.{EncloseCaused, FollowsToo, IsDeliveredBy, closes_by, is_before, scenario_from, with_causes, with_effect_after, with_issue_since, with_issue_until}
 
 -- Where windows enclose a run in which messages follow their causes, they do so when they are cut by these.
 abbrev pub CausesCut : Type 0
@@ -99,13 +99,13 @@ ClosedOverCaused =
     → IsUpperOfCaused scenario causes x most
 
 -- So in a scenario that is closed for a time from the issue of the target, or of a message that does not wait, no run in which messages follow their causes has a greater one.
-abbrev pub ClosedForCaused : Type 0
-ClosedForCaused =
-    (scenario : Scenario) (causes : List Cause) (x most : ℕ)
+abbrev pub ClosedByCauses : Type 0
+ClosedByCauses =
+    (scenario : Scenario) (causes : List Cause) (x : ℕ) (within : List ℕ) (most : ℕ)
     → IsScenario scenario
     → AreCauses scenario causes
     → (x ≡ scenario.target_message) ⊎ ((message_at scenario x).longest_wait ≡ 0)
-    → IsTrue (closes_caused scenario causes x most)
+    → IsTrue (closes_by scenario causes x within most)
     → IsUpperOfCaused scenario causes x most
 
 -- And where some run has such a time, it is the greatest.

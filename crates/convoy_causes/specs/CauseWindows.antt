@@ -1,8 +1,9 @@
 -- Windows of the runs in which messages follow their causes: those of all runs, cut by what each cause says of its event and of the message that follows it.
-use Rattle.std.specs.Prelude.{ℕ, ◌+◌, ◌-◌, ◌*◌, ◌≤◌, min, nat_lt, Bool, ◌&&◌, List, ◌∷◌, map, reverse, if◌then◌else◌, ◌==◌}
+use Rattle.std.specs.Prelude.{ℕ, ◌+◌, ◌-◌, ◌*◌, ◌≤◌, min, nat_lt, Bool, true, false, ◌&&◌, ◌||◌, List, zip, ◌∷◌, map, reverse, if◌then◌else◌, ◌==◌}
 use Rattle.std.specs.List.{fold, list_all}
 use Rattle.convoy_draft.specs.declared.limits.TheConstants.{GREATEST_UNTIL}
 use Rattle.convoy_scenario.specs.Scenario.{Scenario, message_at}
+use Rattle.convoy_scenario.specs.Targets.{may_be_target, with_target}
 use Rattle.convoy_scenario.specs.Widened.{widened}
 use Rattle.convoy_packets.specs.declared.packet.Packet.TheVariants.{Multicast}
 use Rattle.convoy_packets.specs.Assignment.{Schedule, delay_of}
@@ -121,18 +122,50 @@ last_settling scenario windows =
 abbrev pub all_windows : Scenario → Windows
 all_windows scenario = windows_of scenario (root_of scenario)
 
--- the scenario is closed for a time from the issue of message x, which does not wait
-abbrev pub closes_from : Scenario → List Cause → ℕ → ℕ → Bool
-closes_from scenario causes x most =
-    is_before scenario (with_causes scenario causes (all_windows scenario)) ((message_at scenario x).at + most + 1)
+-- ---- when what a message follows is delivered at the latest
+-- an event is a delivery
+abbrev pub is_delivery : Event → Bool
+is_delivery Delivery = true
+is_delivery other = false
+
+-- the last of so many ticks from the first at which message x may be issued
+abbrev pub tick_within : Scenario → ℕ → ℕ → Tick
+tick_within scenario x within = (message_at scenario x).at + within
+
+-- what a cause follows is delivered at its group within so many ticks, by windows as they are, or cut by what is so if it is not: what follows that delivery is issued after the next tick then, and by all causes
+abbrev pub is_delivered_within : Scenario → List Cause → Cause → ℕ → Windows → Bool
+is_delivered_within scenario causes cause within windows =
+    let goal = with_target scenario cause.message cause.group in
+    let tick = tick_within scenario cause.message within in
+    is_before goal windows (tick + 1)
+    || is_before goal (with_causes scenario causes (with_issue_since scenario cause.effect (tick + 1 + cause.least) windows)) (tick + 1)
+
+-- a message follows a delivery that can be asked about
+abbrev pub follows_delivery : Scenario → Cause → Bool
+follows_delivery scenario cause = is_delivery cause.event && may_be_target scenario cause.message
+
+-- the windows cut by when the message that follows is issued at the latest: where it follows a delivery that comes within so many ticks, by that; and else by what windows say of its event
+abbrev pub with_effect_within : Scenario → List Cause → Windows → Cause → ℕ → Windows
+with_effect_within scenario causes windows cause within =
+    if follows_delivery scenario cause && is_delivered_within scenario causes cause within windows
+    then with_issue_until scenario cause.effect (tick_within scenario cause.message within + cause.most) windows
+    else with_effect_after scenario cause windows
+
+-- the windows of all runs in which messages follow their causes: cut by all of these, then by each in turn with its number of ticks, and by all of them again
+abbrev pub narrowed : Scenario → List Cause → List ℕ → Windows
+narrowed scenario causes within =
+    with_causes scenario causes
+    (fold (λ cut step. with_effect_within scenario causes cut step.0 step.1) (with_causes scenario causes (all_windows scenario)) (zip causes within))
 
 -- the scenario in which the issue of message x is known, where that is the target, or does not wait: the widened one for the target
 abbrev pub scenario_from : Scenario → ℕ → Scenario
 scenario_from scenario x = if x == scenario.target_message then widened scenario else scenario
 
--- the scenario is closed for a time from the issue of message x: no run in which messages follow their causes has a greater one
-unfoldable pub closes_caused : Scenario → List Cause → ℕ → ℕ → Bool
-closes_caused scenario causes x most = closes_from (scenario_from scenario x) causes x most
+-- the scenario is closed for a time from the issue of message x, where each delivery that is followed comes within so many ticks: no run in which messages follow their causes has a greater one
+unfoldable pub closes_by : Scenario → List Cause → ℕ → List ℕ → ℕ → Bool
+closes_by scenario causes x within most =
+    let known = scenario_from scenario x in
+    is_before known (narrowed known causes within) ((message_at known x).at + most + 1)
 
 -- ---- of each run in which messages follow their causes
 -- the windows enclose it

@@ -1,7 +1,7 @@
 //! The laws of messages that follow others. Each is the one clause of a function that does nothing; a caller that needs
 //! the law calls the function.
 
-ghost use Rattle.convoy_causes.specs.CauseLaws.{CausedRunsWiden, CausesCut, ClosedForCaused, ClosedOverCaused};
+ghost use Rattle.convoy_causes.specs.CauseLaws.{CausedRunsWiden, CausesCut, ClosedByCauses, ClosedOverCaused};
 ghost use Rattle.convoy_causes.specs.CauseLaws.{DeliveredBefore, DeliveriesCut, DeliveriesEnd, EffectsCut};
 ghost use Rattle.convoy_causes.specs.CauseLaws.{LateDeliveriesEnd, MetUpperIsGreatest};
 
@@ -111,12 +111,16 @@ pub fn closed_over_caused()
 }
 
 /// So it is in a scenario that is closed for that time.
-pub fn closed_for_caused()
-    ensures { ClosedForCaused }
+pub fn closed_by_causes()
+    ensures { ClosedByCauses }
 {
     closed_over_caused();
-    causes_cut();
     windows_enclose_members();
+    causes_cut();
+    effects_cut();
+    deliveries_cut();
+    deliveries_end();
+    late_deliveries_end();
     widened_is_scenario();
 }
 

@@ -6,19 +6,15 @@ ghost use Rattle.convoy_scenario.specs.Scenario.{message_at};
 ghost use Rattle.convoy_intervals.specs.Bounds.{rivals};
 ghost use Rattle.convoy_sure.specs.Windows.{tables_by};
 ghost use Rattle.convoy_leads.specs.Closing.{is_behind_after, is_behind_late};
-ghost use Rattle.convoy_causes.specs.Causes.{AreCauses};
-ghost use Rattle.convoy_causes.specs.CauseWindows.{all_windows, is_before, last_settling, with_causes};
+ghost use Rattle.convoy_causes.specs.CauseWindows.{is_before, last_settling, tick_within};
 
-use super::cause::Cause;
-use super::cutting::Cutting;
-use convoy_intervals::DelayBox;
 use convoy_leads::{LeadTest, Scratch};
 use convoy_packets::Instance;
 use convoy_scenario::AllocResult;
 use convoy_sure::{Messages, Windows, destinations, target_group};
 use std::alloc::Global;
 
-/// The test of the windows of an instance that are cut by causes.
+/// The test of windows of an instance that are cut by causes.
 #[derive(Drop)]
 pub(crate) struct CauseTest<'a> {
     instance: &'a Instance,
@@ -26,25 +22,25 @@ pub(crate) struct CauseTest<'a> {
     ghost same: { leads.scenario ≡ instance.now },
 }
 
-impl<'a> CauseTest<'a> {
-    /// The test of an instance. The error is that memory ran out.
-    pub(crate) fn of(
-        alloc: Global,
-        instance: &'a Instance,
-        causes: &[Cause],
-    ) -> AllocResult<CauseTest<'a>>
-        requires { AreCauses instance.now causes.now }
-        ensures instance { IfOk result (λ test. test.instance.now ≡ instance.now) }
-        ensures windows { IfOk result (λ test. test.leads.windows
-            ≡ with_causes instance.now causes.now (all_windows instance.now)) }
-    {
-        let root = DelayBox::root(alloc, instance)?;
-        let windows = Windows::of(alloc, instance, &root)?;
-        let cutting = Cutting::of(alloc, instance)?;
-        let cut = cutting.with_causes(windows, causes)?;
-        CauseTest::over(alloc, instance, cut)
-    }
+/// Whether windows of an instance say that the target is delivered within a number of ticks from the first at which a
+/// message may be issued. The error is that memory ran out.
+pub(crate) fn delivers_within(
+    alloc: Global,
+    instance: &Instance,
+    windows: Windows,
+    message: usize,
+    within: u32,
+) -> AllocResult<bool>
+    requires { message < length instance.now.multicasts }
+    ensures { IfOk result (λ delivered. delivered
+        ≡ is_before instance.now windows (tick_within instance.now message within + 1)) }
+{
+    let test = CauseTest::over(alloc, instance, windows)?;
+    let delivered = test.closes(message, within, &mut Scratch::new(alloc))?;
+    Ok(delivered)
+}
 
+impl<'a> CauseTest<'a> {
     /// The test of windows of an instance. The error is that memory ran out.
     pub(crate) fn over(
         alloc: Global,

@@ -20,9 +20,10 @@ const PRICE_OF_A_TICK: u64 = 10;
 /// The score of a run that gains nothing.
 const ZERO: u64 = 0x10_0000_0000;
 
-/// A run of an instance under a schedule, of which it is asked whether messages follow their causes.
+/// A run of an instance under a schedule, of which it is asked whether messages follow their causes, and when their events
+/// are (docs/PROTOCOL.md, "Messages that follow others").
 #[derive(Drop)]
-pub(crate) struct CausedRun<'a> {
+pub struct CausedRun<'a> {
     instance: &'a Instance,
     schedule: &'a Schedule,
     run: Run,
@@ -44,7 +45,7 @@ impl<'a> Model for CausedRun<'a> {
 
 impl<'a> CausedRun<'a> {
     /// The run of an instance under a schedule. Fails where memory runs out, and else never.
-    pub(crate) fn of(
+    pub fn of(
         alloc: Global,
         instance: &'a Instance,
         schedule: &'a Schedule,
@@ -63,7 +64,7 @@ impl<'a> CausedRun<'a> {
     }
 
     /// Whether each message follows its cause.
-    pub(crate) fn follow_all(&self, causes: &[Cause]) -> bool
+    pub fn follow_all(&self, causes: &[Cause]) -> bool
         requires { AreCauses self.now.scenario causes.now }
         ensures { IsTrue result
             ↔ All (IsFollowing self.now.scenario self.now.schedule) causes.now }
@@ -77,7 +78,7 @@ impl<'a> CausedRun<'a> {
     }
 
     /// Whether a message follows its cause.
-    fn follows(&self, cause: &Cause) -> bool
+    pub fn follows(&self, cause: &Cause) -> bool
         requires { IsCause self.now.scenario cause.now }
         ensures { IsTrue result ↔ IsFollowing self.now.scenario self.now.schedule cause.now }
     {
@@ -86,8 +87,8 @@ impl<'a> CausedRun<'a> {
         tick + u64::from(cause.least) <= issued && issued <= tick + u64::from(cause.most)
     }
 
-    /// From the issue of a message to the delivery of the target, in ticks.
-    pub(crate) fn time_from(&self, origin: usize) -> u32
+    /// From the issue of a message to the delivery of the target, in ticks; 0 where the target is delivered before that.
+    pub fn time_from(&self, origin: usize) -> u32
         requires { origin < length self.now.scenario.multicasts }
         ensures { result ≡ time_from self.now.scenario origin self.now.schedule }
     {
@@ -139,7 +140,7 @@ impl<'a> CausedRun<'a> {
     }
 
     /// The tick of an event of a message at a group.
-    pub(crate) fn event_tick(&self, event: Event, message: usize, group: usize) -> u32
+    pub fn event_tick(&self, event: Event, message: usize, group: usize) -> u32
         requires addressed { GoesTo self.now.scenario message group }
         ensures { result ≡ event_tick self.now.scenario self.now.schedule event message group }
     {
@@ -153,7 +154,7 @@ impl<'a> CausedRun<'a> {
 
     /// The tick at which a message is issued.
     #[tactic(auto, unfolding(convoy_packets::specs::Assignment::delay_of), using(convoy_sim::proofs::Destinations::issued_soon))]
-    pub(crate) fn issue(&self, message: usize) -> u32
+    pub fn issue(&self, message: usize) -> u32
         requires { message < length self.now.scenario.multicasts }
         ensures value { result ≡ issue self.now.scenario self.now.schedule message }
         ensures fits { result ≤ GREATEST_UNTIL }
@@ -185,7 +186,7 @@ impl<'a> CausedRun<'a> {
     }
 
     /// The tick at which a message is delivered at a group.
-    fn delivery(&self, message: usize, group: usize) -> u32
+    pub fn delivery(&self, message: usize, group: usize) -> u32
         requires { GoesTo self.now.scenario message group }
         ensures { result ≡ deliver self.now.scenario self.now.schedule message group }
     {

@@ -35,7 +35,7 @@ use std::alloc::Global;
 #[derive(Drop)]
 pub(crate) struct Cutting<'a> {
     alloc: Global,
-    instance: &'a Instance,
+    pub(crate) instance: &'a Instance,
     least: Schedule,
     ghost ways: { least ≡ least_of (root_of instance.now) },
 }

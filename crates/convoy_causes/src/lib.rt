@@ -3,10 +3,10 @@
 #![tactic(auto)]
 
 pub use cause::Cause;
+pub use caused_run::CausedRun;
 pub use climb::climb_causes;
-pub use closing::{closes_caused, least_closed};
+pub use closing::{Closing, closes_by, least_closing};
 pub use event::Event;
-pub use following::{is_caused, time_from};
 
 mod cause;
 pub mod cause_laws;
@@ -17,7 +17,6 @@ mod climber;
 mod closing;
 mod cutting;
 mod event;
-mod following;
 mod gaps;
 mod laying;
 mod narrowing;

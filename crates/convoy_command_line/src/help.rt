@@ -235,8 +235,8 @@ How many steps checking the certificate takes at most: from 1 to 1000000000000.
 A step takes about two microseconds at most, and a million of them two seconds";
 
 pub(crate) const ABOUT_WANTED: &str = "\
-Accepts a certificate only if it is valid and is of the scenario in this file, which
-is read first; `-` is standard input, if the certificate is in a file";
+Accepts a certificate only if it is valid and is of the scenario or the workflow in
+this file, which is read first; `-` is standard input, if the certificate is in a file";
 
 pub(crate) const ABOUT_OF_PLAN: &str = "\
 Reads a plan and, below it, a certificate that no other choice of it is better, as

@@ -1,15 +1,15 @@
 ghost use Rattle.std.specs.Prelude.{◌≡◌};
 
 use convoy_commands::{Done, Known};
-use convoy_scenario::Scenario;
+use convoy_workflow_replies::Reference;
 
 /// How the program did what its command line asks for, where there was no fault; and what it knows by then.
 #[derive(Drop)]
 pub struct End {
     pub done: Done,
     pub known: Option<Known>,
-    /// The scenario that a certificate was to be of, where one is named.
-    pub wanted: Option<Scenario>,
+    /// What a certificate was to be of, where that is named.
+    pub wanted: Option<Reference>,
 }
 
 impl End {

@@ -9,7 +9,7 @@ use super::sweep_hints::hint_for_sweep;
 use super::table_hints::hint_for_table;
 use super::trace_hints::{hint_for_long_trace, hint_for_trace};
 use super::workflow_hints::{
-    hint_for_open_workflow, hint_for_scenario_of_workflow, hint_for_workflow,
+    hint_for_open_workflow, hint_for_other, hint_for_scenario_of_workflow, hint_for_workflow,
 };
 use convoy_arguments::{Input, REJECTED, Verdict};
 use convoy_batches::MOST_JOBS;
@@ -20,13 +20,13 @@ use convoy_commands::{
 };
 use convoy_hints::{
     CheckedText, Hint, hint_for_batch, hint_for_both, hint_for_ceiling, hint_for_certificate,
-    hint_for_changes, hint_for_difference, hint_for_file_as_group, hint_for_first,
-    hint_for_given_order, hint_for_given_schedule, hint_for_greatest, hint_for_jobs,
-    hint_for_late_certificate, hint_for_late_message, hint_for_leads, hint_for_length,
-    hint_for_limit, hint_for_named_group, hint_for_open_accept, hint_for_open_through_outages,
-    hint_for_order, hint_for_order_in_ticks, hint_for_outage, hint_for_plain_number, hint_for_plan,
-    hint_for_reading, hint_for_replicas, hint_for_scenario, hint_for_seconds, hint_for_tickets,
-    hint_for_unchecked, hint_for_writing, hint_of_text, is_name_of_file, line_for_file,
+    hint_for_changes, hint_for_file_as_group, hint_for_first, hint_for_given_order,
+    hint_for_given_schedule, hint_for_greatest, hint_for_jobs, hint_for_late_certificate,
+    hint_for_late_message, hint_for_leads, hint_for_length, hint_for_limit, hint_for_named_group,
+    hint_for_open_accept, hint_for_open_through_outages, hint_for_order, hint_for_order_in_ticks,
+    hint_for_outage, hint_for_plain_number, hint_for_plan, hint_for_reading, hint_for_replicas,
+    hint_for_scenario, hint_for_seconds, hint_for_tickets, hint_for_unchecked, hint_for_writing,
+    hint_of_text, is_name_of_file, line_for_file,
 };
 use convoy_plans::PlanFault;
 use convoy_scenario::Scenario;
@@ -35,6 +35,7 @@ use convoy_task_list::{
     CertificateTask, KindsTask, PlanTask, ScenarioTask, SearchTask, Task, TraceTask,
 };
 use convoy_toml::Asked;
+use convoy_workflow_replies::is_workflow_certificate;
 use convoy_workflows::is_workflow;
 use std::alloc::{AllocError, Global};
 use std::io::{Error, Write};
@@ -155,7 +156,14 @@ fn hint_for<R, W>(alloc: Global, run: &Finished<'_, R, W>) -> Hint {
         ) => hint_for_words(alloc, run.words),
         (Verdict::Text { .. }, Ok(_)) => Ok(None),
         (_, Ok(end)) => hint_for_end(alloc, run, end),
-        (_, Err(fault @ (Fault::Scenario(_) | Fault::Reading(ReadFault::TooLong(_))))) => {
+        (
+            _,
+            Err(
+                fault @ (Fault::Scenario(_)
+                | Fault::Workflow(_)
+                | Fault::Reading(ReadFault::TooLong(_))),
+            ),
+        ) => {
             let hint = hint_for_fault(alloc, run, fault)?;
             hint_of_one(alloc, run, hint)
         }
@@ -190,7 +198,8 @@ fn hint_for_end<R, W>(alloc: Global, run: &Finished<'_, R, W>, end: &End) -> Hin
         },
         Done::Differs(_) => match (&end.wanted, &end.known) {
             (Some(wanted), Some(known)) => {
-                hint_for_difference(alloc, wanted, &known.scenario).map(Some)
+                let of_workflow = is_workflow_certificate(run.reader.text());
+                hint_for_other(alloc, wanted, of_workflow, &known.scenario).map(Some)
             }
             _ => Ok(None),
         },
@@ -282,12 +291,14 @@ fn takes_workflow(verdict: &Verdict) -> bool {
         Verdict::Ask { task, .. } => matches!(
             task,
             Task::Tell(Telling::Toml)
+                | Task::Certificate { .. }
                 | Task::Search {
-                    what: SearchTask::Latency {
-                        with_ceiling: false,
-                        outage: None,
-                        accept: None,
-                    },
+                    what: SearchTask::Analyse
+                        | SearchTask::Latency {
+                            with_ceiling: false,
+                            outage: None,
+                            accept: None,
+                        },
                     ..
                 }
         ),

@@ -7,9 +7,9 @@ use Rattle.convoy_streams.specs.Reads.{ReadsText, StopsReading}
 use Rattle.convoy_commands.specs.declared.fault.Fault.{Fault}
 use Rattle.convoy_commands.specs.declared.fault.Fault.TheVariants.{Memory, Reading, Write}
 use Rattle.convoy_commands.specs.Faults.{told_of_reading}
-use Rattle.convoy_scenario.specs.Scenario.{Scenario}
 use Rattle.convoy_streams.proofs.FailureCounts.{after_pieces, in_nothing, none_in_pieces}
 use Rattle.convoy_task_list.specs.declared.task.Task.{Task}
+use Rattle.convoy_workflow_replies.specs.declared.reference.Reference.{Reference}
 use Rattle.convoy_tasks.specs.Tasks.{longest_for, task_says}
 use Rattle.convoy_tasks.proofs.TaskFaults.{says_no_device}
 use Rattle.convoy_commands.proofs.NoDevice.{IsNoDevice}
@@ -35,7 +35,7 @@ in_refusal : (fault : Fault) → IsNoDevice fault → 0 ≡ told_reads (Err faul
 in_refusal (Reading reading.Read) none = absurd none
 in_refusal other none = refl
 
-in_fault : (task : Task) (wanted : Option Scenario) (most_reads : ℕ) (reads writes : List Answer) (fault : Fault) →
+in_fault : (task : Task) (wanted : Option Reference) (most_reads : ℕ) (reads writes : List Answer) (fault : Fault) →
     IsUnread (longest_for task) most_reads reads fault ⊎ Replied (longest_for task) (task_says task wanted) reads (Err fault) →
     writes ≡ [] → (failures reads ≡ told_reads (Err fault)) × (failures writes ≡ 0)
 in_fault task wanted most_reads reads writes fault (inl unread) none = (
@@ -53,7 +53,7 @@ in_memory : (longest most_reads : ℕ) (reads : List Answer) →
 in_memory longest most_reads reads (inl stop) = in_stop longest most_reads reads reading.Memory stop
 in_memory longest most_reads reads (inr text) = in_text longest reads text.0 text.1
 
-pub failures_told : (task : Task) (wanted : Option Scenario) → FailuresAreTold (longest_for task) (task_says task wanted)
+pub failures_told : (task : Task) (wanted : Option Reference) → FailuresAreTold (longest_for task) (task_says task wanted)
 failures_told task wanted most_reads reads writes (Ok done) ran =
     (in_text (longest_for task) reads ran.1.text ran.1.read, none_in_pieces writes ran.2.each)
 failures_told task wanted most_reads reads writes (Err Write) ran =

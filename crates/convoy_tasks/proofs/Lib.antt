@@ -1,4 +1,4 @@
 pub mod Failures
-pub mod ScenarioReads
+pub mod ReferenceReads
 pub mod TaskFaults
 pub mod TextRuns

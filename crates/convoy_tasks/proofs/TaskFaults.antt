@@ -89,7 +89,10 @@ use Rattle.convoy_text_answers.specs.LinkAnswers.{beside_reply, beside_says, lin
 use Rattle.convoy_trace_ranges.specs.Answers.{trace_ranges_text}
 use Rattle.convoy_trace_ranges.specs.Beside.{beside_told}
 use Rattle.convoy_trace_ranges.specs.LinkTables.{trace_table_text}
-use Rattle.convoy_tasks.specs.Tasks.{certificate_says, greatest_says, kinds_say, latency_by, plan_says, scenario_says, search_says, survey_by, task_says, telling_says, tells_late_run, trace_task_says}
+use Rattle.convoy_workflow_replies.specs.declared.reference.Reference.{Reference}
+use Rattle.convoy_workflow_replies.specs.declared.reference.Reference.TheVariants as references
+use Rattle.convoy_workflow_replies.specs.WorkflowForms.{is_workflow_certificate, told_text}
+use Rattle.convoy_tasks.specs.Tasks.{check_against, check_by, form_says, greatest_says, kinds_say, latency_by, of_scenario_says, of_workflow_says, plan_says, proof_says, scenario_says, search_says, scenario_wanted, survey_by, task_says, telling_says, tells_late_run, trace_of_says}
 
 -- the fault of an answer is that of the reply
 fault_of_fine : (answer : Result (List ℕ) Fault) (fault : Fault) → Err fault ≡ fine answer → answer ≡ Err fault
@@ -130,6 +133,15 @@ about_no_device None false unit text fault says = check_no_device text fault say
 about_no_device None true unit text fault says = check_no_device text fault says
 about_no_device (Some scenario) tells unit text fault says = check_no_device text fault says
 
+-- and likewise where what is wanted may be a workflow
+against_no_device : (reference : Reference) (tells : Bool) (unit : Option TimeUnit) (text : List ℕ) (fault : Fault) → check_against reference tells unit text (Err fault) → IsNoDevice fault
+against_no_device (references.Scenario scenario) tells unit text fault says = about_no_device (Some scenario) tells unit text fault says
+against_no_device (references.Workflow workflow) tells unit text fault says = check_no_device text fault says
+
+check_by_no_device : (wanted : Option Reference) (tells : Bool) (unit : Option TimeUnit) (text : List ℕ) (fault : Fault) → check_by wanted tells unit text (Err fault) → IsNoDevice fault
+check_by_no_device None tells unit text fault says = about_no_device None tells unit text fault says
+check_by_no_device (Some reference) tells unit text fault says = against_no_device reference tells unit text fault says
+
 explained_no_device : (with_ceiling : Bool) (unit : Option TimeUnit) (text : List ℕ) (fault : Fault) → explain_says with_ceiling unit text (Err fault) → IsNoDevice fault
 explained_no_device true unit text fault says = explain_no_device unit text fault says
 explained_no_device false unit text fault says = explain_no_device unit text fault says
@@ -159,6 +171,10 @@ no_device_in_workflow other = tt
 telling_no_device : (is_late_run : Bool) (telling : Telling) (text : List ℕ) (fault : Fault) → telling_says is_late_run telling text (Err fault) → IsNoDevice fault
 telling_no_device true telling text fault faulty = rw faulty.told (no_device_in_workflow faulty.cause)
 telling_no_device false telling text fault says = tell_no_device telling text fault says
+
+proof_no_device : (is_workflow : Bool) (asked : Asked) (settings : Settings) (text : List ℕ) (fault : Fault) → proof_says is_workflow asked settings text (Err fault) → IsNoDevice fault
+proof_no_device true asked settings text fault faulty = rw faulty.told (no_device_in_workflow faulty.cause)
+proof_no_device false asked settings text fault says = search_no_device asked text fault says
 
 greatest_no_device : (is_workflow with_ceiling : Bool) (asked : Asked) (settings : Settings) (text : List ℕ) (fault : Fault)
     → greatest_says is_workflow with_ceiling asked settings text (Err fault) → IsNoDevice fault
@@ -305,7 +321,7 @@ scenario_says_no_device scenario_tasks.Text asked text fault says = search_no_de
 scenario_says_no_device (scenario_tasks.Ceiling simulations outage unit) asked text fault says = ceiling_no_device outage asked unit text fault says
 
 search_says_no_device : (what : SearchTask) (asked : Asked) (settings : Settings) (text : List ℕ) (fault : Fault) → search_says what asked settings text (Err fault) → IsNoDevice fault
-search_says_no_device searches.Analyse asked settings text fault says = search_no_device asked text fault says
+search_says_no_device searches.Analyse asked settings text fault says = proof_no_device (is_workflow_text text) asked settings text fault says
 search_says_no_device (searches.Latency with_ceiling outage accept) asked settings text fault says = latency_no_device accept outage with_ceiling asked settings text fault says
 search_says_no_device (searches.Survey format with_ceilings outage) asked settings text fault says = survey_no_device outage format with_ceilings asked settings text fault says
 search_says_no_device (searches.WhatIf format shows_all) asked settings text fault says = what_if_no_device format shows_all asked settings text fault says
@@ -324,35 +340,47 @@ plan_says_no_device (plan_tasks.Ceiling format unit) wanted asked text fault say
 plan_says_no_device plan_tasks.CeilingScenario wanted asked text fault says = ceiling_placing_no_device wanted asked text fault says
 plan_says_no_device plan_tasks.Check wanted asked text fault says = plan_check_no_device wanted asked text fault says
 
-certificate_says_no_device : (what : CertificateTask) (wanted : Option Scenario) (unit : Option TimeUnit) (limit : Option ℕ) (text : List ℕ) (fault : Fault)
-    → certificate_says what wanted unit limit text (Err fault) → IsNoDevice fault
-certificate_says_no_device (certificates.Check tells) wanted unit limit text fault says =
-    about_no_device wanted tells unit text fault (fault_within limit NotChecked (check_says wanted tells unit) text fault says)
-certificate_says_no_device (certificates.Explain with_ceiling) wanted unit limit text fault says =
+of_scenario_no_device : (what : CertificateTask) (wanted : Option Reference) (unit : Option TimeUnit) (limit : Option ℕ) (text : List ℕ) (fault : Fault)
+    → of_scenario_says what wanted unit limit text (Err fault) → IsNoDevice fault
+of_scenario_no_device (certificates.Check tells) wanted unit limit text fault says =
+    check_by_no_device wanted tells unit text fault (fault_within limit NotChecked (check_by wanted tells unit) text fault says)
+of_scenario_no_device (certificates.Explain with_ceiling) wanted unit limit text fault says =
     explained_no_device with_ceiling unit text fault (fault_within limit NotChecked (explain_says with_ceiling unit) text fault says)
-certificate_says_no_device certificates.Draw wanted unit limit text fault says =
+of_scenario_no_device certificates.Draw wanted unit limit text fault says =
     draw_no_device unit text fault (fault_within limit NotChecked (AskSays (askings.Draw unit)) text fault says)
+
+-- the certificate of a workflow has no fault
+of_workflow_no_device : (what : CertificateTask) (wanted : Option Reference) (unit : Option TimeUnit) (text : List ℕ) (fault : Fault)
+    → of_workflow_says what wanted unit text (Err fault) → IsNoDevice fault
+of_workflow_no_device (certificates.Check tells) wanted unit text fault none = absurd none
+of_workflow_no_device (certificates.Explain with_ceiling) wanted unit text fault none = absurd none
+of_workflow_no_device certificates.Draw wanted unit text fault none = absurd none
+
+certificate_no_device : (is_workflow : Bool) (what : CertificateTask) (wanted : Option Reference) (unit : Option TimeUnit) (limit : Option ℕ) (text : List ℕ) (fault : Fault)
+    → form_says is_workflow what wanted unit limit text (Err fault) → IsNoDevice fault
+certificate_no_device true what wanted unit limit text fault says = of_workflow_no_device what wanted unit text fault says
+certificate_no_device false what wanted unit limit text fault says = of_scenario_no_device what wanted unit limit text fault says
 
 kinds_say_no_device : (what : KindsTask) (unit : Option TimeUnit) (text : List ℕ) (fault : Fault) → kinds_say what unit text (Err fault) → IsNoDevice fault
 kinds_say_no_device (kinds_tasks.Table format) unit text fault says = kinds_no_device text fault says
 kinds_say_no_device (kinds_tasks.Worst simulations) unit text fault says = kinds_no_device text fault says
 
-trace_task_no_device : (what : TraceTask) (wanted : Option Scenario) (text : List ℕ) (fault : Fault) → trace_task_says what wanted text (Err fault) → IsNoDevice fault
-trace_task_no_device (trace_tasks.Fits skew unit) wanted text fault says = trace_no_device wanted skew unit text fault says
-trace_task_no_device (trace_tasks.Ranges rules unit) wanted text fault says =
+trace_of_no_device : (what : TraceTask) (wanted : Option Scenario) (text : List ℕ) (fault : Fault) → trace_of_says what wanted text (Err fault) → IsNoDevice fault
+trace_of_no_device (trace_tasks.Fits skew unit) wanted text fault says = trace_no_device wanted skew unit text fault says
+trace_of_no_device (trace_tasks.Ranges rules unit) wanted text fault says =
     links_no_device (trace_ranges_text rules unit text) fault (fault_of_fine (links_told_of (trace_ranges_text rules unit text)) fault says)
-trace_task_no_device (trace_tasks.Table format unit) wanted text fault says =
+trace_of_no_device (trace_tasks.Table format unit) wanted text fault says =
     links_no_device (trace_table_text format unit text) fault (fault_of_fine (links_told_of (trace_table_text format unit text)) fault says)
-trace_task_no_device (trace_tasks.Beside format unit) wanted text fault says = beside_no_device wanted format unit text fault says
+trace_of_no_device (trace_tasks.Beside format unit) wanted text fault says = beside_no_device wanted format unit text fault says
 
-pub says_no_device : (task : Task) (wanted : Option Scenario) (text : List ℕ) (fault : Fault) → task_says task wanted text (Err fault) → IsNoDevice fault
-says_no_device (Tell telling) wanted text fault says = telling_no_device (tells_late_run telling text) telling text fault says
+pub says_no_device : (task : Task) (wanted : Option Reference) (text : List ℕ) (fault : Fault) → task_says task wanted text (Err fault) → IsNoDevice fault
+says_no_device (Tell telling) wanted text fault says = telling_no_device (tells_late_run telling (told_text text)) telling (told_text text) fault says
 says_no_device (OfScenario asked what) wanted text fault says = scenario_says_no_device what asked text fault says
 says_no_device (Ceilings format group simulations outage asked unit) wanted text fault says = ceilings_no_device format outage asked unit (option_map string_bytes group) text fault says
 says_no_device (Search asked options what) wanted text fault says = search_says_no_device what asked options text fault says
 says_no_device (BatchTable format asked options tells_status) wanted text fault says = rw says.0 tt
 says_no_device (Plan targets asked what) wanted text fault says = plan_says_no_device what targets asked text fault says
-says_no_device (OfCertificate unit limit what) wanted text fault says = certificate_says_no_device what wanted unit limit text fault says
+says_no_device (OfCertificate unit limit what) wanted text fault says = certificate_no_device (is_workflow_certificate text) what wanted unit limit text fault says
 says_no_device (Kinds unit what) wanted text fault says = kinds_say_no_device what unit text fault says
-says_no_device (Trace what) wanted text fault says = trace_task_no_device what wanted text fault says
+says_no_device (Trace what) wanted text fault says = trace_of_no_device what (scenario_wanted wanted) text fault says
 says_no_device (Ranges rules) wanted text fault says = ranges_no_device rules text fault says

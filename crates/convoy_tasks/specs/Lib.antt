@@ -27,7 +27,15 @@ pub use Rattle.convoy_text_answers.specs.Abouts
 pub use Rattle.convoy_text_answers.specs.KindAnswers
 pub use Rattle.convoy_text_answers.specs.FitsAnswers
 pub use Rattle.convoy_text_answers.specs.LinkAnswers
--- what a reader has to believe: what may be answered for each task, what its run does at its devices, and what reading the scenario gives that is wanted
+pub use Rattle.convoy_workflow_answers.specs.WorkflowLatencies
+pub use Rattle.convoy_workflow_answers.specs.WorkflowProofs
+pub use Rattle.convoy_workflow_answers.specs.LateRuns
+pub use Rattle.convoy_workflow_replies.specs.WorkflowForms
+pub use Rattle.convoy_workflow_replies.specs.WorkflowAsks
+pub use Rattle.convoy_workflow_replies.specs.References
+pub use Rattle.convoy_workflow_replies.specs.WorkflowChecks
+pub use Rattle.convoy_workflows.specs.Reading as WorkflowReading
+-- what a reader has to believe: what may be answered for each task, what its run does at its devices, and what reading gives that is wanted
 pub mod ScenarioTexts
 pub mod Tasks
 pub mod Runs

@@ -22,7 +22,13 @@ use Rattle.convoy_outage_answers.specs.Latencies.{latency_through_says}
 use Rattle.convoy_finish_answers.specs.AcceptedLatencies.{latency_accepted_says}
 use Rattle.convoy_workflows.specs.Reading.{is_workflow_text}
 use Rattle.convoy_workflow_answers.specs.WorkflowLatencies.{workflow_latency_says}
-use Rattle.convoy_workflow_answers.specs.WorstRuns.{WorstRunSays}
+use Rattle.convoy_workflow_answers.specs.LateRuns.{LateRunSays}
+use Rattle.convoy_workflow_answers.specs.WorkflowProofs.{WorkflowProofSays}
+use Rattle.convoy_workflow_replies.specs.declared.reference.Reference.{Reference}
+use Rattle.convoy_workflow_replies.specs.declared.reference.Reference.TheVariants as references
+use Rattle.convoy_workflow_replies.specs.WorkflowAsks.{AskWorkflowSays}
+use Rattle.convoy_workflow_replies.specs.WorkflowChecks.{CheckAgainstWorkflowSays, CheckWorkflowSays}
+use Rattle.convoy_workflow_replies.specs.WorkflowForms.{is_workflow_certificate, told_text}
 use Rattle.convoy_outage_answers.specs.SurveysThrough.{SurveyThroughSays}
 use Rattle.convoy_survey.specs.CeilingTables.{CeilingsSay}
 use Rattle.convoy_survey.specs.Surveys.{SurveySays}
@@ -73,18 +79,31 @@ tells_late_run tellings.Toml text = is_workflow_text text
 
 -- such a run, or what is told of a scenario or of a certificate
 abbrev pub telling_says : Bool → Telling → Rule
-telling_says true telling = WorstRunSays as_written
+telling_says true telling = LateRunSays as_written
 telling_says false telling = TellSays telling
 
 -- the one or the other, as the text is
+abbrev pub telling_by : Telling → Rule
+telling_by telling text = telling_says (tells_late_run telling text) telling text
+
+-- the same, of a certificate of a workflow that of the certificate in it
 abbrev pub told_by : Telling → Rule
-told_by telling text = telling_says (tells_late_run telling text) telling text
+told_by telling text = telling_by telling (told_text text)
 
 -- what a scenario answers without a search
 abbrev pub scenario_says : ScenarioTask → Asked → Rule
 scenario_says scenarios.First asked = FirstSays asked
 scenario_says scenarios.Text asked = ScenarioTextSays asked
 scenario_says (scenarios.Ceiling simulations outage unit) asked = CeilingSays outage asked unit
+
+-- a certificate of the greatest time of a workflow, or of the greatest latency of a scenario
+abbrev pub proof_says : Bool → Asked → Settings → Rule
+proof_says true asked settings = WorkflowProofSays asked settings
+proof_says false asked settings = AnalyseSays asked settings
+
+-- the one, where the text is that of a workflow, and else the other
+abbrev pub analyse_by : Asked → Settings → Rule
+analyse_by asked settings text = proof_says (is_workflow_text text) asked settings text
 
 -- the greatest latency of a workflow, or of a scenario, with its ceiling where that is asked for
 abbrev pub greatest_says : Bool → Bool → Asked → Settings → Rule
@@ -112,7 +131,7 @@ survey_by (Some outage) format with_ceilings asked settings = SurveyThroughSays 
 
 -- what is found in it by searches with these settings
 abbrev pub search_says : SearchTask → Asked → Settings → Rule
-search_says searches.Analyse asked settings = AnalyseSays asked settings
+search_says searches.Analyse asked settings = analyse_by asked settings
 search_says (searches.Latency with_ceiling outage accept) asked settings = latency_by accept outage with_ceiling asked settings
 search_says (searches.Survey format with_ceilings outage) asked settings = survey_by outage format with_ceilings asked settings
 search_says (searches.WhatIf format shows_all) asked settings = WhatIfSays format shows_all asked settings
@@ -132,11 +151,36 @@ plan_says (plans.Ceiling format unit) wanted asked = PlanCeilingSays format want
 plan_says plans.CeilingScenario wanted asked = CeilingPlacingSays wanted asked
 plan_says plans.Check wanted asked = PlanCheckSays wanted asked
 
--- what a certificate answers, which has to be of the scenario that is wanted, if one is
-abbrev pub certificate_says : CertificateTask → Option Scenario → Option TimeUnit → Option ℕ → Rule
-certificate_says (certificates.Check tells) wanted unit limit = SaysWithin limit NotChecked (check_says wanted tells unit)
-certificate_says (certificates.Explain with_ceiling) wanted unit limit = SaysWithin limit NotChecked (explain_says with_ceiling unit)
-certificate_says certificates.Draw wanted unit limit = SaysWithin limit NotChecked (AskSays (askings.Draw unit))
+-- whether the certificate of a scenario is of that: of a workflow none is
+abbrev pub check_against : Reference → Bool → Option TimeUnit → Rule
+check_against (references.Scenario scenario) tells unit = check_says (Some scenario) tells unit
+check_against (references.Workflow workflow) tells unit = CheckAgainstWorkflowSays
+
+-- whether it is of what is wanted, if something is
+abbrev pub check_by : Option Reference → Bool → Option TimeUnit → Rule
+check_by None tells unit = check_says None tells unit
+check_by (Some reference) tells unit = check_against reference tells unit
+
+-- what the certificate of a scenario answers, which has to be of what is wanted, if something is
+abbrev pub of_scenario_says : CertificateTask → Option Reference → Option TimeUnit → Option ℕ → Rule
+of_scenario_says (certificates.Check tells) wanted unit limit = SaysWithin limit NotChecked (check_by wanted tells unit)
+of_scenario_says (certificates.Explain with_ceiling) wanted unit limit = SaysWithin limit NotChecked (explain_says with_ceiling unit)
+of_scenario_says certificates.Draw wanted unit limit = SaysWithin limit NotChecked (AskSays (askings.Draw unit))
+
+-- what the certificate of a workflow answers, which has to be of what is wanted, if something is: it has no ceiling, and is checked whatever steps that takes
+abbrev pub of_workflow_says : CertificateTask → Option Reference → Option TimeUnit → Rule
+of_workflow_says (certificates.Check tells) wanted unit = CheckWorkflowSays wanted tells unit
+of_workflow_says (certificates.Explain with_ceiling) wanted unit = AskWorkflowSays (askings.Explain unit)
+of_workflow_says certificates.Draw wanted unit = AskWorkflowSays (askings.Draw unit)
+
+-- what a certificate answers, of a workflow or of a scenario
+abbrev pub form_says : Bool → CertificateTask → Option Reference → Option TimeUnit → Option ℕ → Rule
+form_says true what wanted unit limit = of_workflow_says what wanted unit
+form_says false what wanted unit limit = of_scenario_says what wanted unit limit
+
+-- the one, where the text begins as one of a workflow, and else the other
+abbrev pub certificate_says : CertificateTask → Option Reference → Option TimeUnit → Option ℕ → Rule
+certificate_says what wanted unit limit text = form_says (is_workflow_certificate text) what wanted unit limit text
 
 -- what kinds of messages answer
 abbrev pub kinds_say : KindsTask → Option TimeUnit → Rule
@@ -144,14 +188,23 @@ kinds_say (kinds.Table format) unit = KindTableSays format unit
 kinds_say (kinds.Worst simulations) unit = WorstKindSays unit
 
 -- what a trace answers, of a run of the scenario that is wanted
-abbrev pub trace_task_says : TraceTask → Option Scenario → Rule
-trace_task_says (traces.Fits skew unit) wanted = trace_says wanted skew unit
-trace_task_says (traces.Ranges rules unit) wanted = TraceRangesSay rules unit
-trace_task_says (traces.Table format unit) wanted = TraceTableSays format unit
-trace_task_says (traces.Beside format unit) wanted = beside_says wanted format unit
+abbrev pub trace_of_says : TraceTask → Option Scenario → Rule
+trace_of_says (traces.Fits skew unit) wanted = trace_says wanted skew unit
+trace_of_says (traces.Ranges rules unit) wanted = TraceRangesSay rules unit
+trace_of_says (traces.Table format unit) wanted = TraceTableSays format unit
+trace_of_says (traces.Beside format unit) wanted = beside_says wanted format unit
 
--- THE RULE OF A TASK: what may be answered for a text. The scenario that is wanted, if one is, is that of which a certificate has to be, or a trace; no other task looks at it.
-abbrev pub task_says : Task → Option Scenario → Rule
+-- the scenario that is wanted, if one is
+abbrev pub scenario_wanted : Option Reference → Option Scenario
+scenario_wanted (Some (references.Scenario scenario)) = Some scenario
+scenario_wanted other = None
+
+-- what a trace answers of that
+abbrev pub trace_task_says : TraceTask → Option Reference → Rule
+trace_task_says what wanted = trace_of_says what (scenario_wanted wanted)
+
+-- THE RULE OF A TASK: what may be answered for a text. What is wanted, if something is, is that of which a certificate has to be, or a scenario of a run of which a trace has to be; no other task looks at it.
+abbrev pub task_says : Task → Option Reference → Rule
 task_says (Tell telling) wanted = told_by telling
 task_says (OfScenario asked what) wanted = scenario_says what asked
 task_says (Ceilings format group simulations outage asked unit) wanted = CeilingsSay format outage asked unit (option_map string_bytes group)

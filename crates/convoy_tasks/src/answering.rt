@@ -5,7 +5,7 @@ ghost use Rattle.convoy_commands.specs.WithCeilings.{explain_says};
 ghost use Rattle.convoy_commands.specs.Withins.{SaysWithin};
 ghost use Rattle.convoy_commands.specs.declared.done.Done.TheVariants.{NotChecked};
 ghost use Rattle.convoy_survey.specs.CeilingTables.{CeilingsSay};
-ghost use Rattle.convoy_tasks.specs.Tasks.{IsToldAtOnce, certificate_says, kinds_say, latency_by, latency_through_by, latency_told_by, longest_for, longest_for_plan, plan_says, scenario_says, search_says, survey_by, task_says, told_by, trace_task_says};
+ghost use Rattle.convoy_tasks.specs.Tasks.{IsToldAtOnce, analyse_by, certificate_says, check_against, check_by, kinds_say, latency_by, latency_through_by, latency_told_by, longest_for, longest_for_plan, of_scenario_says, of_workflow_says, plan_says, scenario_says, scenario_wanted, search_says, survey_by, task_says, telling_by, told_by, trace_of_says, trace_task_says};
 ghost use Rattle.convoy_commands.specs.declared.telling.Telling.TheVariants.{Toml};
 
 use super::scenario_text::answer_scenario;
@@ -39,14 +39,18 @@ use convoy_text_answers::{
 };
 use convoy_toml::{Asked, WrittenTime};
 use convoy_what_if::what_if_answer;
-use convoy_workflow_answers::{workflow_latency_answer, worst_run_answer};
+use convoy_workflow_answers::{late_run_answer, workflow_latency_answer, workflow_proof_answer};
+use convoy_workflow_replies::{
+    Reference, ask_workflow, check_against_workflow, check_workflow_answer,
+    is_workflow_certificate, told_text,
+};
 use convoy_workflows::is_workflow;
 use std::alloc::Global;
 use std::sync::Wait;
 use std::thread::Threads;
 
 /// Answers a task for a text: how it ends, what is to be written, and what is known besides. A certificate has to be of
-/// the scenario that is wanted, if one is, and a trace of a run of that; no other task looks at it. The rows of a table are made
+/// the scenario or the workflow that is wanted, if one is, and a trace of a run of that scenario; no other task looks at it. The rows of a table are made
 /// as many at a time as there are watches, and one search alone is watched by the first; [`NoGate`](convoy_branch::NoGate)
 /// is a watch where nobody watches. Who watches counts the seconds that the options give a search.
 ///
@@ -61,12 +65,12 @@ pub fn answer<R: Threads + Wait + Sync, W: PlanWatch + Sync>(
     rt: &R,
     alloc: Global,
     task: &Task,
-    wanted: Option<&Scenario>,
+    wanted: Option<&Reference>,
     text: &[u8],
     watches: &[W],
 ) -> Result<Answer, Fault>
     requires { 0 < length watches.now }
-    ensures { SaysUnlessMemory (task_says task.now (option_map (λ s. s.now) wanted.entry)) text.now
+    ensures { SaysUnlessMemory (task_says task.now (option_map (λ r. r.now) wanted.entry)) text.now
         (reply_of result) }
 {
     match task {
@@ -118,15 +122,15 @@ pub fn answer<R: Threads + Wait + Sync, W: PlanWatch + Sync>(
 pub(crate) fn answer_at_once(
     alloc: Global,
     task: &Task,
-    wanted: Option<&Scenario>,
+    wanted: Option<&Reference>,
     text: &[u8],
 ) -> Result<Answer, Fault>
     requires { IsToldAtOnce task.now }
-    ensures { SaysUnlessMemory (task_says task.now (option_map (λ s. s.now) wanted.entry)) text.now
+    ensures { SaysUnlessMemory (task_says task.now (option_map (λ r. r.now) wanted.entry)) text.now
         (reply_of result) }
 {
     match task {
-        Task::Tell(telling) => answer_telling(alloc, *telling, text),
+        Task::Tell(telling) => answer_run_told(alloc, *telling, text),
         Task::Scenario { asked, what } => answer_of_scenario(alloc, what, asked, text),
         Task::Certificate { unit, limit, what } => answer_certificate(
             alloc, *what, wanted, *unit, *limit, text,
@@ -135,9 +139,16 @@ pub(crate) fn answer_at_once(
     }
 }
 
+/// What is told of a text: of a certificate of a workflow what is told of the certificate in it.
+fn answer_run_told(alloc: Global, telling: Telling, text: &[u8]) -> Result<Answer, Fault>
+    ensures { SaysUnlessMemory (told_by telling) text.now (reply_of result) }
+{
+    answer_telling(alloc, telling, told_text(text))
+}
+
 /// What is told of a scenario or of a certificate, or a late run of a workflow, where its scenario is asked for.
 fn answer_telling(alloc: Global, telling: Telling, text: &[u8]) -> Result<Answer, Fault>
-    ensures { SaysUnlessMemory (told_by telling) text.now (reply_of result) }
+    ensures { SaysUnlessMemory (telling_by telling) text.now (reply_of result) }
 {
     match telling {
         Telling::Toml => answer_toml(alloc, text),
@@ -147,11 +158,11 @@ fn answer_telling(alloc: Global, telling: Telling, text: &[u8]) -> Result<Answer
 
 /// The scenario of a text and its schedule, or that of a workflow with a late run.
 fn answer_toml(alloc: Global, text: &[u8]) -> Result<Answer, Fault>
-    ensures { SaysUnlessMemory (told_by Toml) text.now (reply_of result) }
+    ensures { SaysUnlessMemory (telling_by Toml) text.now (reply_of result) }
 {
     let is_workflow = is_workflow(alloc, text)?;
     if is_workflow {
-        worst_run_answer(alloc, &Asked::as_written(), text)
+        late_run_answer(alloc, &Asked::as_written(), text)
     } else {
         tell(alloc, Telling::Toml, text)
     }
@@ -191,7 +202,7 @@ fn answer_search<R: Threads + Wait + Sync, W: PlanWatch + Sync>(
     ensures { SaysUnlessMemory (search_says what.now asked.now options.now) text.now (reply_of result) }
 {
     match what {
-        SearchTask::Analyse => analyse_answer(rt, alloc, asked, text, options, &watches[0]),
+        SearchTask::Analyse => answer_proof(rt, alloc, asked, options, text, &watches[0]),
         SearchTask::Latency {
             with_ceiling,
             outage,
@@ -269,6 +280,25 @@ fn answer_search<R: Threads + Wait + Sync, W: PlanWatch + Sync>(
         SearchTask::Curve { setting, envelope } => {
             curve_told(rt, alloc, setting, *envelope, asked, options, text, watches)
         }
+    }
+}
+
+/// A certificate: of a workflow, where the text is that of one, and else of a scenario.
+fn answer_proof<R: Threads + Wait + Sync, W: Watch + Sync>(
+    rt: &R,
+    alloc: Global,
+    asked: &Asked,
+    options: &Options,
+    text: &[u8],
+    watch: &W,
+) -> Result<Answer, Fault>
+    ensures { SaysUnlessMemory (analyse_by asked.now options.now) text.now (reply_of result) }
+{
+    let is_workflow = is_workflow(alloc, text)?;
+    if is_workflow {
+        workflow_proof_answer(alloc, asked, text, options)
+    } else {
+        analyse_answer(rt, alloc, asked, text, options, watch)
     }
 }
 
@@ -427,25 +457,105 @@ fn answer_plan<R: Threads + Wait + Sync, W: PlanWatch + Sync>(
     }
 }
 
-/// What a certificate answers.
+/// What a certificate answers, of a workflow or of a scenario.
 fn answer_certificate(
     alloc: Global,
     what: CertificateTask,
-    wanted: Option<&Scenario>,
+    wanted: Option<&Reference>,
     unit: Option<TimeUnit>,
     limit: Option<u64>,
     text: &[u8],
 ) -> Result<Answer, Fault>
     ensures { SaysUnlessMemory
-        (certificate_says what (option_map (λ s. s.now) wanted.entry) unit limit) text.now
+        (certificate_says what (option_map (λ r. r.now) wanted.entry) unit limit) text.now
+        (reply_of result) }
+{
+    if is_workflow_certificate(text) {
+        answer_of_workflow(alloc, what, wanted, unit, text)
+    } else {
+        answer_of_run(alloc, what, wanted, unit, limit, text)
+    }
+}
+
+/// What the certificate of a workflow answers.
+fn answer_of_workflow(
+    alloc: Global,
+    what: CertificateTask,
+    wanted: Option<&Reference>,
+    unit: Option<TimeUnit>,
+    text: &[u8],
+) -> Result<Answer, Fault>
+    ensures { SaysUnlessMemory
+        (of_workflow_says what (option_map (λ r. r.now) wanted.entry) unit) text.now
         (reply_of result) }
 {
     match what {
-        CertificateTask::Check { tells } => check_answer(alloc, wanted, tells, unit, limit, text),
+        CertificateTask::Check { tells } => {
+            check_workflow_answer(alloc, wanted, tells, unit, text)
+        }
+        CertificateTask::Explain { .. } => ask_workflow(alloc, Asking::Explain(unit), text),
+        CertificateTask::Draw => ask_workflow(alloc, Asking::Draw(unit), text),
+    }
+}
+
+/// What the certificate of a scenario answers.
+fn answer_of_run(
+    alloc: Global,
+    what: CertificateTask,
+    wanted: Option<&Reference>,
+    unit: Option<TimeUnit>,
+    limit: Option<u64>,
+    text: &[u8],
+) -> Result<Answer, Fault>
+    ensures { SaysUnlessMemory
+        (of_scenario_says what (option_map (λ r. r.now) wanted.entry) unit limit) text.now
+        (reply_of result) }
+{
+    match what {
+        CertificateTask::Check { tells } => answer_check(alloc, wanted, tells, unit, limit, text),
         CertificateTask::Explain { with_ceiling } => {
             answer_explain(alloc, with_ceiling, unit, limit, text)
         }
         CertificateTask::Draw => ask(alloc, Asking::Draw(unit), limit, text),
+    }
+}
+
+/// Whether the certificate of a scenario is valid, and is of what is wanted, if something is.
+fn answer_check(
+    alloc: Global,
+    wanted: Option<&Reference>,
+    tells: bool,
+    unit: Option<TimeUnit>,
+    limit: Option<u64>,
+    text: &[u8],
+) -> Result<Answer, Fault>
+    ensures { SaysUnlessMemory
+        (SaysWithin limit NotChecked (check_by (option_map (λ r. r.now) wanted.entry) tells unit)) text.now
+        (reply_of result) }
+{
+    match wanted {
+        Some(reference) => check_against(alloc, reference, tells, unit, limit, text),
+        None => check_answer(alloc, None, tells, unit, limit, text),
+    }
+}
+
+/// Whether it is valid, and is of that.
+fn check_against(
+    alloc: Global,
+    reference: &Reference,
+    tells: bool,
+    unit: Option<TimeUnit>,
+    limit: Option<u64>,
+    text: &[u8],
+) -> Result<Answer, Fault>
+    ensures { SaysUnlessMemory (SaysWithin limit NotChecked (check_against reference.now tells unit)) text.now
+        (reply_of result) }
+{
+    match reference {
+        Reference::Scenario(scenario) => {
+            check_answer(alloc, Some(scenario), tells, unit, limit, text)
+        }
+        Reference::Workflow(_) => check_against_workflow(alloc, limit, text),
     }
 }
 
@@ -468,10 +578,33 @@ fn answer_of_kinds(
 fn answer_trace(
     alloc: Global,
     what: &TraceTask,
+    wanted: Option<&Reference>,
+    text: &[u8],
+) -> Result<Answer, Fault>
+    ensures { SaysUnlessMemory (trace_task_says what.now (option_map (λ r. r.now) wanted.entry)) text.now
+        (reply_of result) }
+{
+    answer_trace_of(alloc, what, scenario_in(wanted), text)
+}
+
+/// The scenario that is wanted, if one is: no trace is asked to be one of a workflow.
+fn scenario_in(wanted: Option<&Reference>) -> Option<&Scenario>
+    ensures { option_map (λ s. s.now) result ≡ scenario_wanted (option_map (λ r. r.now) wanted.entry) }
+{
+    match wanted {
+        Some(Reference::Scenario(scenario)) => Some(scenario),
+        Some(Reference::Workflow(_)) | None => None,
+    }
+}
+
+/// What a trace answers of a run of that scenario.
+fn answer_trace_of(
+    alloc: Global,
+    what: &TraceTask,
     wanted: Option<&Scenario>,
     text: &[u8],
 ) -> Result<Answer, Fault>
-    ensures { SaysUnlessMemory (trace_task_says what.now (option_map (λ s. s.now) wanted.entry)) text.now
+    ensures { SaysUnlessMemory (trace_of_says what.now (option_map (λ s. s.now) wanted.entry)) text.now
         (reply_of result) }
 {
     match what {

@@ -1,16 +1,13 @@
 //! Commands as calls of their own, which nobody watches.
 
-ghost use Rattle.std.specs.Prelude.{false};
+ghost use Rattle.std.specs.Prelude.{None, false};
 ghost use Rattle.convoy_commands.specs.declared.limits.TheConstants.{LONGEST_CERTIFICATE, LONGEST_JOB};
-ghost use Rattle.convoy_commands.specs.Checks.{CheckSays};
-ghost use Rattle.convoy_commands.specs.declared.done.Done.TheVariants.{NotChecked};
 ghost use Rattle.convoy_commands.specs.First.{FirstSays};
 ghost use Rattle.convoy_toml.specs.Reading.{as_written};
 ghost use Rattle.convoy_tasks.specs.Runs.{IsRun};
-ghost use Rattle.convoy_tasks.specs.Tasks.{latency_told_by};
-ghost use Rattle.convoy_commands.specs.Searches.{AnalyseSays};
-ghost use Rattle.convoy_commands.specs.Tells.{SimulateSays, TimelineSays};
-ghost use Rattle.convoy_commands.specs.Withins.{SaysWithin};
+ghost use Rattle.convoy_tasks.specs.Tasks.{analyse_by, certificate_says, latency_told_by, told_by};
+ghost use Rattle.convoy_commands.specs.declared.telling.Telling.TheVariants.{Simulate, Timeline};
+ghost use Rattle.convoy_task_list.specs.declared.of_certificates.CertificateTask.TheVariants.{Check};
 
 use super::running::{run_at_once, run_task};
 use convoy_commands::{Done, Fault, NoGate, Options, Telling};
@@ -63,7 +60,7 @@ pub fn run_simulate<S: Source, K: Sink>(
     sink: &mut K,
     most_reads: u64,
 ) -> Result<Done, Fault>
-    ensures { IsRun LONGEST_CERTIFICATE SimulateSays most_reads S.reads K.writes source.old source.new sink.old sink.new result }
+    ensures { IsRun LONGEST_CERTIFICATE (told_by Simulate) most_reads S.reads K.writes source.old source.new sink.old sink.new result }
 {
     let task = Task::Tell(Telling::Simulate);
     Ok(run_at_once(alloc, &task, source, sink, most_reads)?.done)
@@ -82,22 +79,22 @@ pub fn run_timeline<S: Source, K: Sink>(
     sink: &mut K,
     most_reads: u64,
 ) -> Result<Done, Fault>
-    ensures { IsRun LONGEST_CERTIFICATE TimelineSays most_reads S.reads K.writes source.old source.new sink.old sink.new result }
+    ensures { IsRun LONGEST_CERTIFICATE (told_by Timeline) most_reads S.reads K.writes source.old source.new sink.old sink.new result }
 {
     let task = Task::Tell(Telling::Timeline);
     Ok(run_at_once(alloc, &task, source, sink, most_reads)?.done)
 }
 
 /// The command `check`: reads the text of a certificate to the end of the source, and writes the yes
-/// with the latency that is the greatest of its scenario, or the first fault for which the
-/// certificate is refused (docs/FORMATS.md, "What `check` writes").
+/// with the latency that is the greatest of its scenario, or with the greatest time of its workflow, or the
+/// first fault for which the certificate is refused (docs/FORMATS.md, "What `check` writes").
 ///
 /// At most `most_reads` reads are made, and where there is a `limit` at most so many steps are taken (docs/FORMATS.md,
 /// "Steps"): where checking takes more it ends as `Done::NotChecked`, and the line that says so is written.
 /// Nothing is written before the answer is known. It ends as `Done::Fine` or, with the refusal, as
-/// `Done::Refused`. The faults are `Fault::Reading` and `Fault::Write` as of
-/// [`run_first`](super::run_first), but with the limit
-/// [`LONGEST_CERTIFICATE`](convoy_commands::LONGEST_CERTIFICATE), and `Fault::Memory`.
+/// `Done::Refused`; of a certificate of a workflow, whose steps are not counted, as `Done::WorkflowRefused`.
+/// The faults are `Fault::Reading` and `Fault::Write` as of [`run_first`](super::run_first), but with the
+/// limit [`LONGEST_CERTIFICATE`](convoy_commands::LONGEST_CERTIFICATE), and `Fault::Memory`.
 pub fn run_check<S: Source, K: Sink>(
     alloc: Global,
     limit: Option<u64>,
@@ -105,7 +102,7 @@ pub fn run_check<S: Source, K: Sink>(
     sink: &mut K,
     most_reads: u64,
 ) -> Result<Done, Fault>
-    ensures { IsRun LONGEST_CERTIFICATE (SaysWithin limit NotChecked CheckSays) most_reads
+    ensures { IsRun LONGEST_CERTIFICATE (certificate_says (Check false) None None limit) most_reads
         S.reads K.writes source.old source.new sink.old sink.new result }
 {
     let task = Task::Certificate {
@@ -116,10 +113,10 @@ pub fn run_check<S: Source, K: Sink>(
     Ok(run_at_once(alloc, &task, source, sink, most_reads)?.done)
 }
 
-/// The command `analyse`: reads a scenario to the end of the source, and writes the certificate of its
-/// greatest latency (docs/FORMATS.md, "What `analyse` writes").
+/// The command `analyse`: reads a scenario or a workflow to the end of the source, and writes the certificate of its
+/// greatest latency, or of the greatest time of the workflow (docs/FORMATS.md, "What `analyse` writes").
 ///
-/// At `Done::Fine` what was written is the text of a certificate of the scenario that was read. Its
+/// At `Done::Fine` what was written for a scenario is the text of a certificate of it. Its
 /// schedule has the stated latency, and no assignment of delays to the packets has a greater one. The
 /// command `check` accepts the text. At `Done::Open` boxes are left: the search spent all tickets that
 /// the options give it, both ways as many as [`plain_share`](convoy_commands::plain_share) and
@@ -127,6 +124,9 @@ pub fn run_check<S: Source, K: Sink>(
 /// greatest latency is at least LEAST ticks and at most MOST, and then the lines of a schedule that has the
 /// latency LEAST. Nobody watches this search, so seconds in the options do not stop it: for that there
 /// is [`run_task`](super::run_task).
+///
+/// For a workflow it is the certificate of its greatest time, or where that is not known what
+/// [`workflow_proof_answer`](convoy_workflow_answers::workflow_proof_answer) writes in its place.
 ///
 /// Where the text gives the target a deadline the same is written, and it ends as [`run_latency`] does.
 ///
@@ -139,7 +139,7 @@ pub fn run_analyse<R: Threads + Wait + Sync, S: Source, K: Sink>(
     sink: &mut K,
     options: &Options,
 ) -> Result<Done, Fault>
-    ensures { IsRun LONGEST_JOB (AnalyseSays as_written options.now) options.now.most_reads
+    ensures { IsRun LONGEST_JOB (analyse_by as_written options.now) options.now.most_reads
         S.reads K.writes source.old source.new sink.old sink.new result }
 {
     let task = Task::Search {

@@ -4,9 +4,10 @@
 pub use answering::{answer, longest_of};
 pub use calls::{run_analyse, run_check, run_first, run_latency, run_simulate, run_timeline};
 pub use convoy_tables::Format;
+pub use convoy_workflow_replies::Reference;
 pub use ended::Ended;
 pub use running::run_task;
-pub use wanted::read_scenario;
+pub use wanted::read_reference;
 
 mod answering;
 mod calls;

@@ -9,9 +9,9 @@ use super::answering::{answer, answer_at_once, longest_of};
 use super::ended::Ended;
 use convoy_best_plan::PlanWatch;
 use convoy_commands::{Answer, Fault};
-use convoy_scenario::Scenario;
 use convoy_streams::{DeviceFailed, Sink, Source, read_to_end, write_all};
 use convoy_task_list::Task;
+use convoy_workflow_replies::Reference;
 use std::alloc::Global;
 use std::sync::Wait;
 use std::thread::Threads;
@@ -27,21 +27,21 @@ pub fn run_task<R: Threads + Wait + Sync, S: Source, K: Sink, W: PlanWatch + Syn
     rt: &R,
     alloc: Global,
     task: &Task,
-    wanted: Option<&Scenario>,
+    wanted: Option<&Reference>,
     source: &mut S,
     sink: &mut K,
     most_reads: u64,
     watches: &[W],
 ) -> Result<Ended, Fault>
     requires { 0 < length watches.now }
-    ensures { IsRun (longest_for task.now) (task_says task.now (option_map (λ s. s.now) wanted.entry)) most_reads
+    ensures { IsRun (longest_for task.now) (task_says task.now (option_map (λ r. r.now) wanted.entry)) most_reads
         S.reads K.writes source.old source.new sink.old sink.new (done_of result) }
 {
     let text = read_to_end(alloc, source, longest_of(task), most_reads)?;
     write_answer(sink, answer(rt, alloc, task, wanted, &text, watches))
 }
 
-/// The same of a task that is told at once, without threads; no scenario is wanted.
+/// The same of a task that is told at once, without threads; nothing is wanted.
 pub(crate) fn run_at_once<S: Source, K: Sink>(
     alloc: Global,
     task: &Task,

@@ -52,7 +52,7 @@ never_read (Ok certificate) part out is = never_checked (checked certificate) pa
 never_read (Err texts.Memory) part out is = cc
 never_read (Err fault) part out is = let none : Differs part ≡ Refused (refusals.Text fault) = end_is (Differs part) (Refused (refusals.Text fault)) out _ is in cc
 
-never_differs : (text out : List ℕ) (part : Part) → AskSays Check text (Ok (Differs part, out)) → ⊥
+pub never_differs : (text out : List ℕ) (part : Part) → AskSays Check text (Ok (Differs part, out)) → ⊥
 unfolding check_reply
 never_differs text out part says = never_read (certificate_of text) part out says.exact
 

@@ -12,8 +12,9 @@ use convoy_times::{Measure, push_told};
 use itoa::Buffer;
 use std::alloc::{AllocError, Global};
 
-/// The refusal of a certificate whose scenario differs in this part.
-pub(crate) fn differs_line(alloc: Global, part: Part) -> Result<Vec<u8>, AllocError>
+/// The refusal of a valid certificate that differs in this part from what is wanted, as a line (docs/FORMATS.md,
+/// "Refusals"). Fails where memory runs out, and else never.
+pub fn differs_line(alloc: Global, part: Part) -> Result<Vec<u8>, AllocError>
     ensures { IfOk result (λ line. line.items ≡ differs_line part) }
 {
     let mut line = Vec::new(alloc);

@@ -2,6 +2,7 @@
 //! scenario that is wanted; whether a trace is one of that; its links; and the ceilings of kinds.
 #![tactic(auto)]
 
+pub use accepted_lines::differs_line;
 pub use checking::check_answer;
 pub use fits::answer_fits;
 pub use kinds::{answer_kinds, answer_worst_kind};

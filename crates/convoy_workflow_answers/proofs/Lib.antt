@@ -1,2 +1,4 @@
 mod Uppers
+mod SoughtRuns
 mod Told
+mod Proved

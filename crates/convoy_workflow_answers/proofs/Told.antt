@@ -17,7 +17,7 @@ use Rattle.convoy_commands.specs.Measured.{measure_of_text}
 use Rattle.convoy_commands.specs.Outsides.{outside_of_text}
 use Rattle.convoy_commands.specs.Verdicts.{deadline_at, judged}
 use Rattle.convoy_workflow_answers.specs.declared.found.Found.{Found}
-use Rattle.convoy_workflow_answers.specs.WorstRuns.{IsRunTold, IsWorstRun}
+use Rattle.convoy_workflow_answers.specs.LateRuns.{IsRunTold, IsLateRun}
 use Rattle.convoy_workflow_answers.specs.WorkflowLatencies.{IsFound, IsWorkflowLatency, found_end, least_of, most_of, workflow_deadline, workflow_latency_text}
 
 pub workflow_told : (asked : Asked) (settings : Settings) (in_text : Option TimeUnit) (measure : Option Measure) (deadline outside : Option ℕ)
@@ -57,7 +57,7 @@ workflow_told asked settings in_text measure deadline outside deadlines shares t
 pub run_told : (asked : Asked) (text out : List ℕ) (workflow : WorkflowView) (same : Scenario) (end : Done)
     → workflow_of_text asked text ≡ Ok workflow → same ≡ workflow.scenario → IsScenario same
     → IsRunTold (record { scenario = same; causes = workflow.causes; origin = workflow.origin }) end out
-    → IsWorstRun asked text end out
+    → IsLateRun asked text end out
 run_told asked text out workflow same end read is lawful run = record {
   workflow = workflow;
   read = read;

@@ -34,7 +34,8 @@ pub fn workflow_latency_answer(
     let instance = Instance::of(alloc, workflow.scenario)?;
     let outside = outside_told(&workflow.shares, &instance);
     let steps = options.simulations();
-    let found = greatest_time(alloc, &instance, &workflow.causes, workflow.origin, steps)?;
+    let sought = greatest_time(alloc, &instance, &workflow.causes, workflow.origin, steps)?;
+    let found = sought.found;
     let text = told(alloc, &measure, deadline, outside, found)?;
     let done = judged(deadline, found.least(), found.most(), found.end());
     Ok(Answer::about(done, text, instance.into_scenario(), workflow.plain))
@@ -60,7 +61,11 @@ fn told(
 }
 
 /// Appends the line of what was found.
-fn push_found(measure: Option<Measure>, found: Found, out: &mut Vec<u8>) -> Result<(), AllocError>
+pub(crate) fn push_found(
+    measure: Option<Measure>,
+    found: Found,
+    out: &mut Vec<u8>,
+) -> Result<(), AllocError>
     ensures { OnOk result (out.new.items ≡ out.old.items ++ found_line measure found) }
 {
     match found {

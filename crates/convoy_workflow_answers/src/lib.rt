@@ -2,10 +2,12 @@
 #![tactic(auto)]
 
 pub use found::Found;
+pub use late_run::late_run_answer;
 pub use latency::workflow_latency_answer;
-pub use worst_run::worst_run_answer;
+pub use proving::workflow_proof_answer;
 
 mod found;
+mod late_run;
 mod latency;
+mod proving;
 mod seeking;
-mod worst_run;

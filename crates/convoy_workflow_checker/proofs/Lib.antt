@@ -1,0 +1,5 @@
+mod Greatest
+mod InTurn
+mod Plain
+mod LineTexts
+mod Told

@@ -1,0 +1,46 @@
+-- What is answered for the text of a certificate of a scenario, where a workflow is wanted.
+use Rattle.std.proofs.Common.{◌≡◌, inl, inr, refl, ℕ, List, Option, Ok}
+use Rattle.convoy_scenario.specs.declared.part.Part.TheVariants.{Multicasts}
+use Rattle.convoy_commands.specs.declared.asking.Asking.TheVariants.{Check}
+use Rattle.convoy_commands.specs.declared.done.Done.{Done}
+use Rattle.convoy_commands.specs.declared.done.Done.TheVariants.{Fine, Open, Beyond, Faulty, Refused, PlanRefused, WorkflowRefused, Differs, Departs, NotChecked}
+use Rattle.convoy_commands.specs.Asks.{AskSays}
+use Rattle.convoy_commands.specs.Replies.{SaysUnlessMemory}
+use Rattle.convoy_commands.specs.Withins.{SaysWithin}
+use Rattle.convoy_commands.proofs.WithinTexts.{AllowsOthers, asked_so, others_as_asked}
+use Rattle.convoy_text_answers.specs.AcceptedLines.{differs_line}
+use Rattle.convoy_text_answers.proofs.Withins.{never_differs, yes_within}
+use Rattle.convoy_workflow_replies.specs.WorkflowChecks.{CheckAgainstWorkflowSays, IsOfNoWorkflow}
+
+-- a yes of `check` becomes that it is of no workflow
+pub yes_against : (limit : Option ℕ) (text line out : List ℕ) →
+    SaysUnlessMemory (SaysWithin limit NotChecked (AskSays Check)) text (Ok (Fine, line)) → out ≡ differs_line Multicasts →
+    SaysUnlessMemory (SaysWithin limit NotChecked CheckAgainstWorkflowSays) text (Ok (Differs Multicasts, out))
+yes_against limit text line out (inl said) written =
+    let no : IsOfNoWorkflow Multicasts text out = record {
+      line = line;
+      accepted = yes_within limit text line (inl said);
+      is_named = refl;
+      written = written;
+    } in
+    inl (asked_so limit NotChecked Fine text line (AskSays Check) CheckAgainstWorkflowSays (Ok (Differs Multicasts, out)) (λ is. cc) said (λ says. no))
+yes_against limit text line out (inr none) written = absurd cc
+
+-- what is no yes is answered as by `check`
+as_check : AllowsOthers Check CheckAgainstWorkflowSays
+as_check text out Fine not says = absurd (not refl)
+as_check text out Open not says = says
+as_check text out Beyond not says = says
+as_check text out Faulty not says = says
+as_check text out (Refused refusal) not says = says
+as_check text out PlanRefused not says = says
+as_check text out WorkflowRefused not says = says
+as_check text out (Differs part) not says = absurd (never_differs text out part says)
+as_check text out Departs not says = says
+as_check text out NotChecked not says = says
+
+pub others_against : (limit : Option ℕ) (text out : List ℕ) (done : Done) → (done ≡ Fine → ⊥) →
+    SaysUnlessMemory (SaysWithin limit NotChecked (AskSays Check)) text (Ok (done, out)) →
+    SaysUnlessMemory (SaysWithin limit NotChecked CheckAgainstWorkflowSays) text (Ok (done, out))
+others_against limit text out done not said =
+    others_as_asked limit Check CheckAgainstWorkflowSays text out done as_check not said

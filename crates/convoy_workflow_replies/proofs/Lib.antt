@@ -1,0 +1,2 @@
+mod AgainstWorkflows
+mod Explained
