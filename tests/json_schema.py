@@ -67,6 +67,10 @@ KEYWORDS = {
     "then": (is_any, lambda part, value, schema, valid: "if" in schema),
     "else": (is_any, lambda part, value, schema, valid: "if" in schema),
     "required": (is_object, lambda keys, value, schema, valid: all(key in value for key in keys)),
+    "dependencies": (
+        is_object,
+        lambda needs, value, schema, valid: all(other in value for key in needs if key in value for other in needs[key]),
+    ),
     "properties": (is_object, lambda parts, value, schema, valid: all(valid(parts[key], value[key]) for key in parts if key in value)),
     "additionalProperties": (
         is_object,

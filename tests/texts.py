@@ -121,6 +121,13 @@ def message_of(name, sender, at, *groups):
     return f'\n[[multicast]]\nname = "{name}"\n{sent}to = {quoted(groups)}\nat = {at}\n'
 
 
+def with_outage(span, text):
+    """The text with the key `outage` in a line above it, which tells a number of ticks or a duration; with None a comment stands
+    there, so that all other lines have the same numbers."""
+    key = "# No outage is told." if span is None else f"outage = {span}" if span.isdigit() else f'outage = "{span}"'
+    return f"{key}\n{text}"
+
+
 def scenario_of(certificate):
     """The scenario of a certificate in whole ticks without links, as a text."""
     lines = [line.split() for line in certificate.splitlines()]

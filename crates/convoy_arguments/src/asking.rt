@@ -9,6 +9,7 @@ use convoy_outages::Outage;
 use convoy_ranges::{RangesAsked, Speed};
 use convoy_scenario::{Duration, Name};
 use convoy_sweep::{Setting, Sweep, UnreadSetting};
+use convoy_task_list::outage_by;
 use convoy_toml::{Around, Asked, TargetKey, WrittenTime};
 use std::alloc::{AllocError, Global};
 
@@ -163,14 +164,6 @@ pub(crate) fn outage_of(alloc: Global, given: &ArgMatches<'_>) -> Result<Option<
     match time_in(word) {
         Some(time) => Ok(Some(outage_by(time))),
         None => Err(rejected(alloc, OUTAGE, word)),
-    }
-}
-
-/// The outage that lasts for a time.
-fn outage_by(time: WrittenTime) -> Outage {
-    match time {
-        WrittenTime::Count(ticks) => Outage::Ticks(ticks.unsigned_abs()),
-        WrittenTime::Lasting(duration) => Outage::Lasting(duration),
     }
 }
 

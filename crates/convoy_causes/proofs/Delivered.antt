@@ -33,7 +33,7 @@ module _ (scenario : Scenario) (m g : ℕ) where
     fixed = is.fixed;
   }
 
-  assigned : (schedule : Schedule) → IsAssignment scenario schedule → IsAssignment other schedule
+  pub assigned : (schedule : Schedule) → IsAssignment scenario schedule → IsAssignment other schedule
   unfolding packets_of ranges_of
   assigned schedule is = record { delays = is.delays; order = same_order schedule.order is.order }
 

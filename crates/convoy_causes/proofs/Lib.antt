@@ -1,7 +1,7 @@
 pub mod CutByCauses
 mod Delivered
 pub mod Before
-pub mod WidenedCauses
+pub mod MovedCauses
 pub mod ClosedCauses
 pub mod Turns
 pub mod Told

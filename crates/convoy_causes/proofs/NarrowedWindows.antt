@@ -1,12 +1,10 @@
 -- Windows that are cut by when what messages follow is delivered enclose each run in which messages follow their causes; so no such run takes longer than they say.
-use Rattle.std.proofs.Common.{◌≡◌, ℕ, ◌+◌, Bool, true, false, cond, ◌==◌, ◌&&◌, inl, inr, List, [], ◌∷◌, zip, All, fold, refl, sym, subst}
+use Rattle.std.proofs.Common.{◌≡◌, ℕ, ◌+◌, Bool, true, ◌&&◌, inl, inr, List, [], ◌∷◌, zip, All, fold, refl, sym, subst}
 use Rattle.std.proofs.lemmas.Bool.{and_parts, cases_Bool, cond-false, cond-true, false≢true, or_cases}
 use Rattle.std.proofs.lemmas.List.Elements.{All-head, All-tail}
-use Rattle.convoy_scenario.specs.Scenario.{Scenario}
+use Rattle.convoy_scenario.specs.Scenario.{Scenario, message_at}
 use Rattle.convoy_scenario.specs.Targets.{may_be_target, with_target}
 use Rattle.convoy_scenario.specs.WellFormed.{IsScenario}
-use Rattle.convoy_scenario.specs.Widened.{widened}
-use Rattle.convoy_scenario.specs.WidenedLaws.{WidenedIsScenario}
 use Rattle.convoy_scenario.proofs.OtherTargets.{with_target_formed}
 use Rattle.convoy_scenario.proofs.RoomLemmas.{room_told}
 use Rattle.convoy_sim.specs.Times.{Tick}
@@ -17,9 +15,9 @@ use Rattle.convoy_causes.specs.declared.cause.Cause.{Cause}
 use Rattle.convoy_causes.specs.declared.event.Event.{Event}
 use Rattle.convoy_causes.specs.declared.event.Event.TheVariants.{Issue, Arrival, Commit, Delivery}
 use Rattle.convoy_causes.specs.Causes.{AreCauses, IsCause}
-use Rattle.convoy_causes.specs.CauseWindows.{EncloseCaused, FollowsToo, IsDeliveredBy, all_windows, closes_by, follows_delivery, is_before, is_delivered_within, is_delivery, narrowed, scenario_from, tick_within, with_causes, with_effect_after, with_effect_within, with_issue_since, with_issue_until}
-use Rattle.convoy_causes.specs.CauseLaws.{CausesCut, ClosedByCauses, ClosedOverCaused, DeliveriesCut, DeliveriesEnd, EffectsCut, LateDeliveriesEnd}
-use Rattle.convoy_causes.proofs.WidenedCauses.{causes_from}
+use Rattle.convoy_causes.specs.CauseWindows.{EncloseCaused, FollowsToo, IsDeliveredBy, all_windows, closes_by, follows_delivery, has_room_from, is_before, is_delivered_within, is_delivery, narrowed, scenario_from, tick_within, with_causes, with_effect_after, with_effect_within, with_issue_since, with_issue_until}
+use Rattle.convoy_causes.specs.CauseLaws.{CausesCut, ClosedByCauses, ClosedOverCaused, DeliveriesCut, DeliveriesEnd, EffectsCut, KnownIsScenario, LateDeliveriesEnd}
+use Rattle.convoy_causes.proofs.MovedCauses.{causes_from}
 
 -- the laws on which this rests
 pub record NarrowingHolds : Type 0 where
@@ -30,7 +28,7 @@ pub record NarrowingHolds : Type 0 where
   pub deliveries : DeliveriesCut
   pub ends : DeliveriesEnd
   pub late_ends : LateDeliveriesEnd
-  pub well_too : WidenedIsScenario
+  pub known : KnownIsScenario
 
 -- what each step keeps that takes an element and a number, all of them do
 zip_keeps : {S X : Type 0} (P : S → Type 0) (Q : X → Type 0) (step : S → X × ℕ → S) → ((s : S) (x : X) (n : ℕ) → Q x → P s → P (step s (x, n)))
@@ -95,15 +93,11 @@ module _ (laws : NarrowingHolds) (scenario : Scenario) (causes : List Cause) (we
       let each : All IsOne causes = λ k d l. (are k d l, λ schedule caused. caused.following k d l) in
       all_enclose _ (zip_keeps Encloses IsOne (λ (cut : Windows) (step : Cause × ℕ). with_effect_within scenario causes cut step.0 step.1) effect_encloses first causes within each (all_enclose _ widest))
 
-formed_from : WidenedIsScenario → (plan : Scenario) (x : ℕ) → IsScenario plan → IsScenario (scenario_from plan x)
-formed_from well_too plan x well = by_target (x == plan.target_message) where
-  by_target : (b : Bool) → IsScenario (cond b (widened plan) plan)
-  by_target true = well_too plan well
-  by_target false = well
-
 pub closed_by_causes : NarrowingHolds → ClosedByCauses
 unfolding closes_by
-closed_by_causes laws plan causes x within most well are known closed =
+closed_by_causes laws plan causes x within most well are l closed =
     let there : Scenario = scenario_from plan x in
-    laws.over plan causes x most (narrowed there causes within) well are known
-    (narrowed_encloses laws there causes (formed_from laws.well_too plan x well) (causes_from plan causes x are) within) closed
+    let parts = and_parts (has_room_from plan x) (is_before there (narrowed there causes within) ((message_at there x).at + most + 1)) closed in
+    let formed = laws.known plan x well l parts.0 in
+    laws.over plan causes x most (narrowed there causes within) well are l formed
+    (narrowed_encloses laws there causes formed (causes_from plan causes x are) within) parts.1

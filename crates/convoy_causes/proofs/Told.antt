@@ -1,6 +1,7 @@
 -- What the program tells of windows.
-use Rattle.std.proofs.Common.{◌≡◌, ◌⊎◌, ℕ, ◌+◌, ◌-◌, ◌<◌, Bool, true, nat_lt, inl, inr, List, [], ◌∷◌, IsTrue, refl, ap, ◌∙◌, arith}
+use Rattle.std.proofs.Common.{◌≡◌, ◌⊎◌, ℕ, ◌+◌, ◌-◌, ◌<◌, Bool, true, false, ◌&&◌, nat_lt, inl, inr, List, [], ◌∷◌, IsTrue, Option, Some, None, IfSome, refl, sym, ap, subst, ◌∙◌, arith}
 use Rattle.std.specs.List.{list_all}
+use Rattle.std.specs.Option.{is_some}
 use Rattle.std.proofs.lemmas.Bool.{and_from, lt-ltb, or_left}
 use Rattle.convoy_scenario.specs.Scenario.{Scenario, message_at}
 use Rattle.convoy_sim.proofs.Membership.{IsIn, in_greatest}
@@ -8,7 +9,7 @@ use Rattle.convoy_intervals.specs.Bounds.{rivals}
 use Rattle.convoy_sure.specs.Windows.{Windows, tables_by}
 use Rattle.convoy_leads.specs.Closing.{is_behind_after, is_behind_late}
 use Rattle.convoy_causes.specs.declared.cause.Cause.{Cause}
-use Rattle.convoy_causes.specs.CauseWindows.{closes_by, is_before, last_settling, narrowed, scenario_from, tick_within}
+use Rattle.convoy_causes.specs.CauseWindows.{closes_by, has_room_from, is_before, last_settling, narrowed, scenario_from, tick_within}
 
 -- what is tested of windows of a scenario is what is asked
 pub asked_told : (tested asked : Scenario) (kept windows : Windows) (m within : ℕ) → tested ≡ asked → kept ≡ windows
@@ -50,10 +51,32 @@ before_found scenario windows x time most (inl e) plain =
     before_past scenario windows ((message_at scenario x).at + time + 1) late
 before_found scenario windows x time most (inr before) plain = before
 
--- what is tested of the narrowed windows of the scenario that is asked is whether the scenario is closed
-pub closing_told : (plan : Scenario) (causes : List Cause) (x : ℕ) (within : List ℕ) (most : ℕ) (asked : Scenario) (windows : Windows) → asked ≡ scenario_from plan x
-    → windows ≡ narrowed asked causes within → is_before asked windows (tick_within asked x most + 1) ≡ closes_by plan causes x within most
+-- what is tested of the narrowed windows of the scenario that is asked, where there is room for it, is whether the scenario is closed
+pub closing_told : (plan : Scenario) (causes : List Cause) (x : ℕ) (within : List ℕ) (most : ℕ) (asked : Scenario) (windows : Windows) → has_room_from plan x ≡ true
+    → asked ≡ scenario_from plan x → windows ≡ narrowed asked causes within → is_before asked windows (tick_within asked x most + 1) ≡ closes_by plan causes x within most
 unfolding closes_by
-closing_told plan causes x within most asked windows asked_is windows_is =
+closing_told plan causes x within most asked windows room asked_is windows_is =
+    let there : Scenario = scenario_from plan x in
     ap (λ (w : Windows). is_before asked w (tick_within asked x most + 1)) windows_is
     ∙ ap (λ (s : Scenario). is_before s (narrowed s causes within) (tick_within s x most + 1)) asked_is
+    ∙ ap (λ (b : Bool). b && is_before there (narrowed there causes within) (tick_within there x most + 1)) (sym room)
+
+-- where there is none it is not
+pub never_closed : (plan : Scenario) (causes : List Cause) (x : ℕ) (within : List ℕ) (most : ℕ) → has_room_from plan x ≡ false → false ≡ closes_by plan causes x within most
+unfolding closes_by
+never_closed plan causes x within most none =
+    let there : Scenario = scenario_from plan x in
+    ap (λ (b : Bool). b && is_before there (narrowed there causes within) (tick_within there x most + 1)) (sym none)
+
+-- ---- what the program keeps where it finds the scenario in which the issue is known
+abbrev IsFrom : Scenario → ℕ → Option Scenario → Type 0
+IsFrom plan x found = IfSome found (λ known. known ≡ scenario_from plan x)
+
+pub from_some : (plan : Scenario) (x : ℕ) (found : Option Scenario) (known : Scenario) → IsFrom plan x found → found ≡ Some known → known ≡ scenario_from plan x
+from_some plan x found known is same = subst (IsFrom plan x) same is
+
+pub room_some : (plan : Scenario) (x : ℕ) (found : Option Scenario) (known : Scenario) → is_some found ≡ has_room_from plan x → found ≡ Some known → has_room_from plan x ≡ true
+room_some plan x found known is same = sym is ∙ ap is_some same
+
+pub room_none : (plan : Scenario) (x : ℕ) (found : Option Scenario) → is_some found ≡ has_room_from plan x → found ≡ None → has_room_from plan x ≡ false
+room_none plan x found is same = sym is ∙ ap is_some same

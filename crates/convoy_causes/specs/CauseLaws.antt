@@ -1,18 +1,16 @@
 -- What is proved of causes. Each is the one clause of the function of its name in the crate's module `cause_laws`.
-use Rattle.std.specs.Prelude.{◌≡◌, ◌⊎◌, ℕ, ◌+◌, ◌<◌, List, IsTrue}
+use Rattle.std.specs.Prelude.{◌≡◌, ℕ, ◌+◌, ◌<◌, List, length, IsTrue}
 use Rattle.convoy_scenario.specs.Scenario.{Scenario, message_at}
 use Rattle.convoy_scenario.specs.Targets.{with_target}
 use Rattle.convoy_scenario.specs.WellFormed.{IsScenario}
-use Rattle.convoy_scenario.specs.Widened.{widened}
 use Rattle.convoy_packets.specs.Assignment.{Schedule, IsAssignment}
 use Rattle.convoy_sim.specs.Times.{Tick}
 use Rattle.convoy_sim.specs.Delivery.{deliver}
 use Rattle.convoy_sure.specs.Windows.{EnclosesAll, Windows, tables_by}
-use Rattle.convoy_origin.specs.Widened.{widened_schedule}
 use Rattle.convoy_causes.specs.declared.cause.Cause.{Cause}
 use Rattle.convoy_causes.specs.declared.event.Event.TheVariants.{Delivery}
-use Rattle.convoy_causes.specs.Causes.{AreCauses, IsCause, IsCaused, IsCausedReached, IsGreatestCaused, IsUpperOfCaused}
-use Rattle.convoy_causes.specs.CauseWindows.{EncloseCaused, FollowsToo, IsDeliveredBy, closes_by, is_before, scenario_from, with_causes, with_effect_after, with_issue_since, with_issue_until}
+use Rattle.convoy_causes.specs.Causes.{AreCauses, IsCause, IsCaused, IsCausedReached, IsGreatestCaused, IsUpperOfCaused, time_from}
+use Rattle.convoy_causes.specs.CauseWindows.{EncloseCaused, FollowsToo, IsDeliveredBy, closes_by, has_room_from, is_before, scenario_from, with_causes, with_effect_after, with_issue_since, with_issue_until}
 
 -- Where windows enclose a run in which messages follow their causes, they do so when they are cut by these.
 abbrev pub CausesCut : Type 0
@@ -78,33 +76,44 @@ LateDeliveriesEnd =
     → IsTrue (is_before (with_target scenario cause.message cause.group) (with_causes scenario causes (with_issue_since scenario cause.effect (tick + 1 + cause.least) windows)) (tick + 1))
     → IsDeliveredBy scenario causes cause.message cause.group tick
 
--- A run in which messages follow their causes does so in the widened scenario.
-abbrev pub CausedRunsWiden : Type 0
-CausedRunsWiden =
-    (scenario : Scenario) (causes : List Cause) (schedule : Schedule)
+-- The scenario in which the issue of a message is known is well formed where there is room for it, ..
+abbrev pub KnownIsScenario : Type 0
+KnownIsScenario =
+    (scenario : Scenario) (x : ℕ) → IsScenario scenario → x < length scenario.multicasts → IsTrue (has_room_from scenario x) → IsScenario (scenario_from scenario x)
+
+-- .. as there always is for the target, ..
+abbrev pub TargetsHaveRoom : Type 0
+TargetsHaveRoom = (scenario : Scenario) → IsScenario scenario → IsTrue (has_room_from scenario scenario.target_message)
+
+-- .. and each run in which messages follow their causes is one of it, of the same time from that issue to the delivery of the target.
+abbrev pub CausedRunsMove : Type 0
+CausedRunsMove =
+    (scenario : Scenario) (causes : List Cause) (x : ℕ) (schedule : Schedule)
     → IsScenario scenario
     → AreCauses scenario causes
+    → x < length scenario.multicasts
     → IsCaused scenario causes schedule
-    → IsCaused (widened scenario) causes (widened_schedule scenario schedule)
+    → IsCausedReached (scenario_from scenario x) causes x (time_from scenario x schedule)
 
--- Where such windows of the scenario in which the issue of a message is known, the target or one that does not wait, say that the target is delivered within a time from there, no run in which messages follow their causes has a greater one.
+-- Where such windows of the scenario in which the issue of a message is known say that the target is delivered within a time from there, no run in which messages follow their causes has a greater one.
 abbrev pub ClosedOverCaused : Type 0
 ClosedOverCaused =
     (scenario : Scenario) (causes : List Cause) (x most : ℕ) (windows : Windows)
     → IsScenario scenario
     → AreCauses scenario causes
-    → (x ≡ scenario.target_message) ⊎ ((message_at scenario x).longest_wait ≡ 0)
+    → x < length scenario.multicasts
+    → IsScenario (scenario_from scenario x)
     → EncloseCaused (scenario_from scenario x) causes windows
     → IsTrue (is_before (scenario_from scenario x) windows ((message_at (scenario_from scenario x) x).at + most + 1))
     → IsUpperOfCaused scenario causes x most
 
--- So in a scenario that is closed for a time from the issue of the target, or of a message that does not wait, no run in which messages follow their causes has a greater one.
+-- So in a scenario that is closed for a time from the issue of a message, no run in which messages follow their causes has a greater one.
 abbrev pub ClosedByCauses : Type 0
 ClosedByCauses =
     (scenario : Scenario) (causes : List Cause) (x : ℕ) (within : List ℕ) (most : ℕ)
     → IsScenario scenario
     → AreCauses scenario causes
-    → (x ≡ scenario.target_message) ⊎ ((message_at scenario x).longest_wait ≡ 0)
+    → x < length scenario.multicasts
     → IsTrue (closes_by scenario causes x within most)
     → IsUpperOfCaused scenario causes x most
 

@@ -1,5 +1,5 @@
 -- Windows of the runs in which messages follow their causes: those of all runs, cut by what each cause says of its event and of the message that follows it.
-use Rattle.std.specs.Prelude.{ℕ, ◌+◌, ◌-◌, ◌*◌, ◌≤◌, min, nat_lt, Bool, true, false, ◌&&◌, ◌||◌, List, zip, ◌∷◌, map, reverse, if◌then◌else◌, ◌==◌}
+use Rattle.std.specs.Prelude.{ℕ, ◌+◌, ◌-◌, ◌*◌, ◌≤◌, min, nat_lt, Bool, true, false, ◌&&◌, ◌||◌, List, zip, ◌∷◌, length, map, reverse, if◌then◌else◌}
 use Rattle.std.specs.List.{fold, list_all}
 use Rattle.convoy_draft.specs.declared.limits.TheConstants.{GREATEST_UNTIL}
 use Rattle.convoy_scenario.specs.Scenario.{Scenario, message_at}
@@ -157,15 +157,23 @@ narrowed scenario causes within =
     with_causes scenario causes
     (fold (λ cut step. with_effect_within scenario causes cut step.0 step.1) (with_causes scenario causes (all_windows scenario)) (zip causes within))
 
--- the scenario in which the issue of message x is known, where that is the target, or does not wait: the widened one for the target
+-- the scenario in which the issue of message x is known: that is issued at the end of its window, and each other message may wait longer by as much as it might
 abbrev pub scenario_from : Scenario → ℕ → Scenario
-scenario_from scenario x = if x == scenario.target_message then widened scenario else scenario
+scenario_from scenario x = with_target (widened (with_target scenario x scenario.target_group)) scenario.target_message scenario.target_group
 
--- the scenario is closed for a time from the issue of message x, where each delivery that is followed comes within so many ticks: no run in which messages follow their causes has a greater one
+-- that one is within the limits of scenarios
+abbrev pub has_room_from : Scenario → ℕ → Bool
+has_room_from scenario x = may_be_target scenario x && may_be_target (widened (with_target scenario x scenario.target_group)) scenario.target_message
+
+-- the message is one of the scenario, and there is room to know its issue
+abbrev pub may_be_origin : Scenario → ℕ → Bool
+may_be_origin scenario x = nat_lt x (length scenario.multicasts) && has_room_from scenario x
+
+-- the scenario is closed for a time from the issue of message x, where each delivery that is followed comes within so many ticks: there is room to know that issue, and no run in which messages follow their causes has a greater one
 unfoldable pub closes_by : Scenario → List Cause → ℕ → List ℕ → ℕ → Bool
 closes_by scenario causes x within most =
     let known = scenario_from scenario x in
-    is_before known (narrowed known causes within) ((message_at known x).at + most + 1)
+    has_room_from scenario x && is_before known (narrowed known causes within) ((message_at known x).at + most + 1)
 
 -- ---- of each run in which messages follow their causes
 -- the windows enclose it

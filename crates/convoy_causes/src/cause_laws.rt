@@ -1,14 +1,14 @@
 //! The laws of messages that follow others. Each is the one clause of a function that does nothing; a caller that needs
 //! the law calls the function.
 
-ghost use Rattle.convoy_causes.specs.CauseLaws.{CausedRunsWiden, CausesCut, ClosedByCauses, ClosedOverCaused};
+ghost use Rattle.convoy_causes.specs.CauseLaws.{CausedRunsMove, CausesCut, ClosedByCauses, ClosedOverCaused, KnownIsScenario, TargetsHaveRoom};
 ghost use Rattle.convoy_causes.specs.CauseLaws.{DeliveredBefore, DeliveriesCut, DeliveriesEnd, EffectsCut};
 ghost use Rattle.convoy_causes.specs.CauseLaws.{LateDeliveriesEnd, MetUpperIsGreatest};
 
 use convoy_leads::lead_laws::behind_is_not_ahead;
 use convoy_origin::origin_laws::assignments_widen;
 use convoy_origin::shift_laws::runs_shift;
-use convoy_scenario::widened_laws::widened_is_scenario;
+use convoy_scenario::widened_laws::{room_is_decided, widened_is_scenario};
 use convoy_sim::protocol_laws::{
     delivered_after_commit, delivery_law, earlier_arrives_before_commit, issued_at_its_tick,
     latency_is_never_negative, latency_within_four_delays,
@@ -90,23 +90,37 @@ pub fn delivered_before()
     delivery_law();
 }
 
-/// A run in which messages follow their causes does so in the widened scenario, where the target does not wait.
-pub fn caused_runs_widen()
-    ensures { CausedRunsWiden }
+/// The scenario in which the issue of a message is known is well formed where there is room for it.
+pub fn known_is_scenario()
+    ensures { KnownIsScenario }
+{
+    widened_is_scenario();
+}
+
+/// There always is for the target.
+pub fn targets_have_room()
+    ensures { TargetsHaveRoom }
+{
+    widened_is_scenario();
+    room_is_decided();
+}
+
+/// And each run in which messages follow their causes is one of it, of the same time from that issue to the delivery of
+/// the target.
+pub fn caused_runs_move()
+    ensures { CausedRunsMove }
 {
     runs_shift();
     assignments_widen();
 }
 
-/// Where windows that enclose each run in which messages follow their causes say that the target is delivered within a time
-/// from the issue of the target, or of a message that does not wait, no such run takes longer.
+/// Where windows that enclose each run in which messages follow their causes, of the scenario in which the issue of a message
+/// is known, say that the target is delivered within a time from there, no such run takes longer.
 pub fn closed_over_caused()
     ensures { ClosedOverCaused }
 {
     delivered_before();
-    caused_runs_widen();
-    widened_is_scenario();
-    runs_shift();
+    caused_runs_move();
     issued_at_its_tick();
 }
 
@@ -121,7 +135,7 @@ pub fn closed_by_causes()
     deliveries_cut();
     deliveries_end();
     late_deliveries_end();
-    widened_is_scenario();
+    known_is_scenario();
 }
 
 /// And where some run has such a time, it is the greatest.

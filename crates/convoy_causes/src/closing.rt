@@ -1,18 +1,16 @@
-ghost use Rattle.std.specs.Prelude.{◌≡◌, ◌⊎◌, ◌<◌, length, IfOk, IfSome, IsTrue};
+ghost use Rattle.std.specs.Prelude.{◌≡◌, ◌<◌, length, IfOk, IfSome, IsTrue};
 ghost use Rattle.std.specs.Option.{is_some};
-ghost use Rattle.convoy_scenario.specs.Scenario.{message_at};
+ghost use Rattle.convoy_scenario.specs.WellFormed.{IsScenario};
 ghost use Rattle.convoy_causes.specs.Causes.{AreCauses, IsUpperOfCaused};
-ghost use Rattle.convoy_causes.specs.CauseWindows.{closes_by, scenario_from};
+ghost use Rattle.convoy_causes.specs.CauseWindows.{closes_by, has_room_from, scenario_from};
 
 use super::cause::Cause;
 use super::cause_laws::closed_by_causes;
 use super::cause_test::{CauseTest, delivers_within};
+use super::known::scenario_from;
 use super::narrowing::{least_narrowed, narrow_windows};
 use convoy_leads::Scratch;
-use convoy_origin::Origin;
 use convoy_packets::Instance;
-use convoy_scenario::AllocResult;
-use convoy_scenario::widened_laws::widened_is_itself;
 use std::alloc::{AllocError, Global};
 
 /// How it is shown that no run in which messages follow their causes takes longer than a time, from the issue of a
@@ -27,10 +25,9 @@ pub struct Closing {
 }
 
 /// Whether an instance is closed for a number of ticks from the issue of a message, the target itself or another one, where
-/// each delivery that is followed comes within so many ticks as are given by the places of the causes: where that message
-/// is the target, or does not wait, no run in which messages follow their causes takes longer from that issue to the
-/// delivery of the target (docs/LEADS.md, "Messages that follow others"). The error is that memory ran out; all that is
-/// taken is given back.
+/// each delivery that is followed comes within so many ticks as are given by the places of the causes: then no run in which
+/// messages follow their causes takes longer from that issue to the delivery of the target (docs/LEADS.md, "Messages that
+/// follow others"). The error is that memory ran out; all that is taken is given back.
 pub fn closes_by(
     alloc: Global,
     instance: &Instance,
@@ -43,23 +40,21 @@ pub fn closes_by(
     requires origin { origin < length instance.now.multicasts }
     ensures value { IfOk result
         (λ closed. closed ≡ closes_by instance.now causes.now origin within.now most) }
-    ensures holds { IfOk result (λ closed. IsTrue closed
-        → (origin ≡ instance.now.target_message) ⊎ ((message_at instance.now origin).longest_wait ≡ 0)
-        → IsUpperOfCaused instance.now causes.now origin most) }
+    ensures holds { IfOk result (λ closed. IsTrue closed → IsUpperOfCaused instance.now causes.now origin most) }
 {
     closed_by_causes();
-    let _scenario = instance.scenario();
-    let moved = Origin::of(alloc, instance)?;
-    let known = instance_from(&moved, origin);
-    let windows = narrow_windows(alloc, known, causes, within)?;
-    let closed = delivers_within(alloc, known, windows, origin, most)?;
+    let Some(known) = instance_from(alloc, instance, origin)? else {
+        return Ok(false);
+    };
+    let windows = narrow_windows(alloc, &known, causes, within)?;
+    let closed = delivers_within(alloc, &known, windows, origin, most)?;
     Ok(closed)
 }
 
 /// A number of ticks for which an instance is closed from the issue of a message, and within how many ticks each delivery
 /// comes that is followed: the number that is given, if it is closed for that, and else the least that is found by halves
-/// from there (docs/LEADS.md, "Messages that follow others"). None where the message is another one than the target and
-/// may wait, so that its issue is not known. The error is that memory ran out; all that is taken is given back.
+/// from there (docs/LEADS.md, "Messages that follow others"). None where there is no room to know that issue
+/// ([`may_be_origin`](super::may_be_origin)). The error is that memory ran out; all that is taken is given back.
 pub fn least_closing(
     alloc: Global,
     instance: &Instance,
@@ -74,53 +69,32 @@ pub fn least_closing(
     ensures each { IfOk result (λ found. IfSome found (λ closing. length closing.within.items ≡ length causes.now)) }
     ensures holds { IfOk result (λ found. IfSome found (λ closing.
         IsUpperOfCaused instance.now causes.now origin closing.most)) }
-    ensures some { (origin ≡ instance.now.target_message) ⊎ ((message_at instance.now origin).longest_wait ≡ 0)
-        → IfOk result (λ found. IsTrue (is_some found)) }
+    ensures some { IfOk result (λ found. is_some found ≡ has_room_from instance.now origin) }
 {
     closed_by_causes();
-    let _scenario = instance.scenario();
-    if origin != instance.target_message() && instance.longest_wait(origin) > 0 {
+    let Some(known) = instance_from(alloc, instance, origin)? else {
         return Ok(None);
-    }
-    let closing = least_known(alloc, instance, causes, origin, from)?;
-    Ok(Some(closing))
-}
-
-/// The same of the target, or of a message that does not wait.
-fn least_known(
-    alloc: Global,
-    instance: &Instance,
-    causes: &[Cause],
-    origin: usize,
-    from: u32,
-) -> AllocResult<Closing>
-    requires causes { AreCauses instance.now causes.now }
-    requires origin { origin < length instance.now.multicasts }
-    ensures closes { IfOk result (λ closing.
-        IsTrue (closes_by instance.now causes.now origin closing.within.items closing.most)) }
-    ensures each { IfOk result (λ closing. length closing.within.items ≡ length causes.now) }
-{
-    let moved = Origin::of(alloc, instance)?;
-    let known = instance_from(&moved, origin);
-    let found = least_narrowed(alloc, known, causes)?;
-    let test = CauseTest::over(alloc, known, found.windows)?;
+    };
+    let found = least_narrowed(alloc, &known, causes)?;
+    let test = CauseTest::over(alloc, &known, found.windows)?;
     let most = test.least_time(origin, from, &mut Scratch::new(alloc))?;
     let within = found.within;
-    Ok(Closing { within, most })
+    Ok(Some(Closing { within, most }))
 }
 
-/// The instance in which the issue of a message is known, where that is the target, or does not wait: the widened one for
-/// the target.
-fn instance_from<'a>(origin: &'a Origin, message: usize) -> &'a Instance
-    ensures { result.now ≡ scenario_from origin.now message }
+/// The instance in which the issue of a message is known, where there is room for it.
+fn instance_from(
+    alloc: Global,
+    instance: &Instance,
+    message: usize,
+) -> Result<Option<Instance>, AllocError>
+    requires { message < length instance.now.multicasts }
+    ensures some { IfOk result (λ found. IfSome found (λ known. known ≡ scenario_from instance.now message)) }
+    ensures room { IfOk result (λ found. is_some found ≡ has_room_from instance.now message) }
+    ensures lawful { IsScenario instance.now }
 {
-    widened_is_itself();
-    let instance = origin.instance();
-    if message != instance.target_message() {
-        return instance;
-    }
-    match origin.moved() {
-        Some(moved) => moved,
-        None => instance,
+    match scenario_from(instance.scenario(), message)? {
+        Some(known) => Ok(Some(Instance::of(alloc, known)?)),
+        None => Ok(None),
     }
 }

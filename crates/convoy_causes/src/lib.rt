@@ -7,6 +7,7 @@ pub use caused_run::CausedRun;
 pub use climb::climb_causes;
 pub use closing::{Closing, closes_by, least_closing};
 pub use event::Event;
+pub use known::may_be_origin;
 
 mod cause;
 pub mod cause_laws;
@@ -18,6 +19,7 @@ mod closing;
 mod cutting;
 mod event;
 mod gaps;
+mod known;
 mod laying;
 mod narrowing;
 mod question;

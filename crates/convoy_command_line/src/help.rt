@@ -292,6 +292,7 @@ where neither is known and it is 3.
 With `--outage SPAN` a line 'outage-latency V' stands below the first: no latency is
 above V where groups are silent in outages that last SPAN in all, as when another
 replica takes over. The deadline is then judged by V. It takes two searches more.
+The key `outage` of the text says the same, unless that option is given.
   convoy latency --outage \"5 s\" scenario.toml
 
 With `--accept SPAN` each group is replicated by white box: a message is delivered only
@@ -341,7 +342,8 @@ latency is above V where groups are silent in outages that last SPAN in all from
 message's issue to its delivery, as when another replica takes over, and what waits is
 sent after. Deadlines are then judged by V. An outage of 5 s costs 5 s and a little:
   convoy ceiling --outage \"5 s\" scenario.toml
-It may not stand beside `--kinds`.
+It may not stand beside `--kinds`. The key `outage` of the text says the same, unless
+that option is given.
 
 With `--kinds` the text has tables [[kind]] in place of messages, each with who sends
 such messages and where they go, which may be thousands of kinds:
@@ -420,7 +422,8 @@ unless `--all` is given.
 
 With `--outage SPAN` a column OUTAGE_LATENCY tells what no latency is above through
 outages that last SPAN in all, by which deadlines are then judged. It may not stand
-beside `--without`.
+beside `--without`. The key `outage` of the text says the same, unless that option is
+given.
 
 Where a message has a deadline, by its key `within` or by `--at-most`, VERDICT tells
 how it is kept: 'within', 'beyond' or 'undecided'; and BY by how many ticks.

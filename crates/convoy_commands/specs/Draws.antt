@@ -12,10 +12,14 @@ use Rattle.convoy_commands.specs.Measured.{measure_of}
 use Rattle.convoy_commands.specs.Replies.{Reply, Rule}
 use Rattle.convoy_draft.specs.declared.duration.TimeUnit.{TimeUnit}
 
--- the image is one of the run of the certificate's schedule, with times in the unit that is asked for
+-- the image is one of the run of the certificate's schedule, which tells how late the target is from the issue of message x, with times in the unit that is asked for
+abbrev pub IsImageFrom : ℕ → Option TimeUnit → Certificate → List ℕ → Type 0
+IsImageFrom x asked certificate out =
+    IsDrawing (measure_of asked certificate.scenario) certificate.scenario (picture_of certificate.scenario certificate.schedule) x out
+
+-- the same from the target's own issue
 abbrev pub IsImageOf : Option TimeUnit → Certificate → List ℕ → Type 0
-IsImageOf asked certificate out =
-    IsDrawing (measure_of asked certificate.scenario) certificate.scenario (picture_of certificate.scenario certificate.schedule) out
+IsImageOf asked certificate out = IsImageFrom certificate.scenario.target_message asked certificate out
 
 -- an image in place of a yes to the certificate, and else what `check` says
 abbrev pub DrawsFor : Option TimeUnit → Certificate → Reply → Reply → Type 0

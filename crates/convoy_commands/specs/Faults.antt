@@ -178,7 +178,7 @@ row_of_workflow workflows.OverLimit = (3, codes "over limit after")
 row_of_workflow workflows.UnknownCause = (71, codes "unknown cause")
 row_of_workflow workflows.NotAtSender = (72, codes "cause not at sender")
 row_of_workflow workflows.UnknownOrigin = (73, codes "unknown origin")
-row_of_workflow workflows.OriginWaits = (74, codes "origin at no known time")
+row_of_workflow workflows.OriginWaits = (74, codes "origin waits too long")
 
 -- a fault's number and its text
 abbrev pub row_of : Fault → ℕ × List ℕ

@@ -218,7 +218,14 @@ fn image(
     let run = simulate(alloc, instance, schedule)?;
     let picture = Picture::of(alloc, instance, schedule, &run)?;
     let mut text = Vec::new(alloc);
-    let measure = Measure::of(certificate.scenario(), unit, None);
-    write_drawing(certificate.scenario(), measure, &picture, &mut text)?;
+    let scenario = certificate.scenario();
+    let measure = Measure::of(scenario, unit, None);
+    write_drawing(
+        scenario,
+        measure,
+        &picture,
+        scenario.target_message(),
+        &mut text,
+    )?;
     Ok(text)
 }

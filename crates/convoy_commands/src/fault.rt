@@ -481,7 +481,7 @@ fn workflow_row(fault: WorkflowFault) -> (u8, &'static str, FaultEnding)
         WorkflowFault::UnknownCause => (71, "unknown cause", NOTHING),
         WorkflowFault::NotAtSender => (72, "cause not at sender", NOTHING),
         WorkflowFault::UnknownOrigin => (73, "unknown origin", NOTHING),
-        WorkflowFault::OriginWaits => (74, "origin at no known time", NOTHING),
+        WorkflowFault::OriginWaits => (74, "origin waits too long", NOTHING),
     }
 }
 

@@ -35,6 +35,7 @@ pub enum Key {
     Stamps,
     Agree,
     Steps,
+    Outage,
     Schedule,
     Order,
     /// A key that a scenario text may not have.
@@ -151,6 +152,7 @@ impl Key {
             Key::Stamps => "stamps",
             Key::Agree => "agree",
             Key::Steps => "steps",
+            Key::Outage => "outage",
             Key::Schedule => "schedule",
             Key::Order => "order",
             Key::Unknown => "unknown",

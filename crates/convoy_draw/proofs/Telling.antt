@@ -106,16 +106,16 @@ joined_tells layers first second third text whole piece told =
     joined_tells_of layers first second third piece text whole told.role told.told
 
 -- an image shows and tells what its parts do
-pub drawing_tells : (measure : Option Measure) (scenario : Scenario) (picture : Picture) (start head ground windows packets signs labels legend text : List ℕ) (wordless : ℕ)
+pub drawing_tells : (measure : Option Measure) (scenario : Scenario) (picture : Picture) (x : ℕ) (start head ground windows packets signs labels legend text : List ℕ) (wordless : ℕ)
     → text ≡ start ++ (head ++ (ground ++ (windows ++ (packets ++ (signs ++ (labels ++ (legend ++ codes "</svg>\n")))))))
     → IsTrue (is_wordless start)
-    → head ≡ head_text measure scenario picture.why
+    → head ≡ head_text measure scenario picture x
     → TellsWindows scenario windows
     → All (λ flight. Tells (flight_text scenario flight) packets) picture.flights
     → All (λ entry. Tells (entry_text scenario entry) signs) picture.entries
     → ShowsLines (legend_lines scenario picture.why wordless) legend
-    → IsDrawing measure scenario picture text
-drawing_tells measure scenario picture start head ground windows packets signs labels legend text wordless whole sized first waits flights entries lines = record {
+    → IsDrawing measure scenario picture x text
+drawing_tells measure scenario picture x start head ground windows packets signs labels legend text wordless whole sized first waits flights entries lines = record {
   shows = record {
     size = start;
     middle = ground ++ (windows ++ (packets ++ (signs ++ labels)));
@@ -126,7 +126,7 @@ drawing_tells measure scenario picture start head ground windows packets signs l
     lines = lines;
   };
   answer =
-      let answer = answer_text measure scenario picture.why in
+      let answer = answer_text measure scenario picture x in
       let after = codes "\n" ++ (shown heading_style answer ++ shown reason_style (reason_text scenario picture.why)) in
       let told : Tells answer head = record { before = []; after = after; whole = first } in
       tells_within _ head start (ground ++ (windows ++ (packets ++ (signs ++ (labels ++ (legend ++ codes "</svg>\n")))))) text told whole;

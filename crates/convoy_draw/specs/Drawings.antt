@@ -4,7 +4,6 @@ use Rattle.std.specs.List.{All}
 use Rattle.convoy_scenario.specs.Scenario.{Scenario, message_at, may_wait}
 use Rattle.convoy_times.specs.declared.measure.Measure.{Measure}
 use Rattle.convoy_timeline.specs.Explanations.{window_text}
-use Rattle.convoy_timeline.specs.declared.explanation.Explanation.{Explanation}
 use Rattle.convoy_picture.specs.Pictures.{Picture}
 use Rattle.convoy_picture.specs.Words.{answer_text, entry_text, flight_text, reason_text}
 use Rattle.convoy_draw.specs.Legends.{legend_lines}
@@ -29,24 +28,24 @@ TellsWindows scenario text =
 abbrev pub head_of : List ℕ → List ℕ → List ℕ
 head_of answer reason = titled answer ++ (codes "\n" ++ (shown heading_style answer ++ shown reason_style reason))
 
--- the same of a scenario and an explanation
-abbrev pub head_text : Option Measure → Scenario → Explanation → List ℕ
-head_text measure scenario why = head_of (answer_text measure scenario why) (reason_text scenario why)
+-- the same of a scenario and a picture, where time counts from the issue of message x
+abbrev pub head_text : Option Measure → Scenario → Picture → ℕ → List ℕ
+head_text measure scenario picture x = head_of (answer_text measure scenario picture x) (reason_text scenario picture.why)
 
 -- a text shows the answer and the reason, after what says how large it is, and ends with the legend of an image with so many signs that have no words
-pub record Shows (measure : Option Measure) (scenario : Scenario) (why : Explanation) (text : List ℕ) : Type 0 where
+pub record Shows (measure : Option Measure) (scenario : Scenario) (picture : Picture) (x : ℕ) (text : List ℕ) : Type 0 where
   pub size : List ℕ
   pub middle : List ℕ
   pub legend : List ℕ
   pub wordless : ℕ
-  pub whole : text ≡ size ++ (head_text measure scenario why ++ (middle ++ (legend ++ codes "</svg>\n")))
+  pub whole : text ≡ size ++ (head_text measure scenario picture x ++ (middle ++ (legend ++ codes "</svg>\n")))
   pub sized : IsTrue (is_wordless size)
-  pub lines : ShowsLines (legend_lines scenario why wordless) legend
+  pub lines : ShowsLines (legend_lines scenario picture.why wordless) legend
 
--- the text of an image is that of a picture: it shows the answer, the reason and the legend, and has the answer, when messages may be issued, each packet and all that happens as titles
-pub record IsDrawing (measure : Option Measure) (scenario : Scenario) (picture : Picture) (text : List ℕ) : Type 0 where
-  pub shows : Shows measure scenario picture.why text
-  pub answer : Tells (answer_text measure scenario picture.why) text
+-- the text of an image is that of a picture, where time counts from the issue of message x: it shows the answer, the reason and the legend, and has the answer, when messages may be issued, each packet and all that happens as titles
+pub record IsDrawing (measure : Option Measure) (scenario : Scenario) (picture : Picture) (x : ℕ) (text : List ℕ) : Type 0 where
+  pub shows : Shows measure scenario picture x text
+  pub answer : Tells (answer_text measure scenario picture x) text
   pub windows : TellsWindows scenario text
   pub flights : All (λ flight. Tells (flight_text scenario flight) text) picture.flights
   pub entries : All (λ entry. Tells (entry_text scenario entry) text) picture.entries

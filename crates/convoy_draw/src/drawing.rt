@@ -11,7 +11,6 @@ use super::signs::{labels, signs};
 use super::windows::windows;
 use convoy_picture::{MARGIN, Picture, Sheet, WIDTH, answer_words, reason_words};
 use convoy_scenario::Scenario;
-use convoy_timeline::Explanation;
 use convoy_times::Measure;
 use std::alloc::{AllocError, Global};
 
@@ -24,21 +23,22 @@ const REASON_SIZE: &str = r#" font-size="130""#;
 /// Appends the picture of a run of the scenario as an image, the text of which is SVG and ASCII
 /// (docs/FORMATS.md, "What `draw` writes"). Where memory runs out the vector is as it was.
 ///
-/// What is drawn is what the picture tells: above all else stand the answer and the reason, and below it the
-/// legend. Each packet, all that happens at a group and the ticks at which a message may be issued that may
+/// What is drawn is what the picture tells: above all else stand the answer, with time from the issue of message
+/// `origin`, and the reason, and below it the legend. Each packet, all that happens at a group and the ticks at which a message may be issued that may
 /// wait are told in words too. Of a picture of another scenario messages and groups that this one has not
 /// are drawn without a name.
 pub fn write_drawing(
     scenario: &Scenario,
     measure: Option<Measure>,
     picture: &Picture,
+    origin: usize,
     out: &mut Vec<u8>,
 ) -> Result<(), AllocError>
-    ensures ok { OnOk result ((text : List ℕ) × IsDrawing measure scenario.now picture.now text
+    ensures ok { OnOk result ((text : List ℕ) × IsDrawing measure scenario.now picture.now origin text
         × (out.new.items ≡ out.old.items ++ text)) }
     ensures err { OnErr result (out.new.items ≡ out.old.items) }
 {
-    let text = drawing(*out.allocator(), scenario, &measure, picture)?;
+    let text = drawing(*out.allocator(), scenario, &measure, picture, origin)?;
     out.extend_from_slice(text.as_bytes())
 }
 
@@ -48,8 +48,9 @@ fn drawing(
     scenario: &Scenario,
     measure: &Option<Measure>,
     picture: &Picture,
+    origin: usize,
 ) -> Result<String, AllocError>
-    ensures { IfOk result (λ text. IsDrawing measure.now scenario.now picture.now (string_bytes text)) }
+    ensures { IfOk result (λ text. IsDrawing measure.now scenario.now picture.now origin (string_bytes text)) }
 {
     let sheet = Sheet::of(alloc, scenario, picture, measure)?;
     let scene = Scene {
@@ -60,7 +61,7 @@ fn drawing(
         sheet: &sheet,
     };
     let start = start(alloc, WIDTH, sheet.height())?;
-    let head = head(alloc, scenario, measure, picture.why())?;
+    let head = head(alloc, scenario, measure, picture, origin)?;
     let ground = ground(&scene)?;
     let windows = windows(&scene)?;
     let packets = packets(&scene)?;
@@ -93,12 +94,13 @@ fn head(
     alloc: Global,
     scenario: &Scenario,
     measure: &Option<Measure>,
-    why: &Explanation,
+    picture: &Picture,
+    origin: usize,
 ) -> Result<String, AllocError>
-    ensures { IfOk result (λ text. string_bytes text ≡ head_text measure.now scenario.now why.now) }
+    ensures { IfOk result (λ text. string_bytes text ≡ head_text measure.now scenario.now picture.now origin) }
 {
-    let answer = answer_words(alloc, scenario, measure, why)?;
-    let reason = reason_words(alloc, scenario, why)?;
+    let answer = answer_words(alloc, scenario, measure, picture, origin)?;
+    let reason = reason_words(alloc, scenario, picture.why())?;
     head_of(alloc, &answer, &reason)
 }
 

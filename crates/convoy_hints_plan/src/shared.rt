@@ -6,7 +6,7 @@ use super::names::{hint_for_double_place, hint_for_unknown_group};
 use convoy_hints_scenario::{hint_for_bad_place, hint_for_written};
 use convoy_hints_sketch::{Hint, hint_for_shape};
 use convoy_scenario::{Key, Limit, MOST_GROUPS, ScenarioFault};
-use convoy_toml::{Asked, Placed, ScenarioTable, WrittenScenario, scenario_of_table};
+use convoy_toml::{Asked, Placed, ScenarioTable, WrittenScenario, scenario_without_slow};
 use std::alloc::{AllocError, Global};
 
 /// What is wrong with a plan that has that fault of a scenario where this is asked.
@@ -17,7 +17,7 @@ pub(crate) fn hint_for_shared(
     fault: ScenarioFault,
 ) -> Hint {
     match (
-        scenario_of_table(alloc, plan.source.table, &asked.target),
+        scenario_without_slow(alloc, plan.source.table, &asked.target),
         fault,
     ) {
         (Err(placed), _) => hint_for_placed(alloc, plan, &placed),

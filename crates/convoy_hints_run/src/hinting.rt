@@ -34,7 +34,7 @@ use convoy_streams::KeptReader;
 use convoy_task_list::{
     CertificateTask, KindsTask, PlanTask, ScenarioTask, SearchTask, Task, TraceTask,
 };
-use convoy_toml::Asked;
+use convoy_toml::{Asked, outage_of_text};
 use convoy_workflow_replies::is_workflow_certificate;
 use convoy_workflows::is_workflow;
 use std::alloc::{AllocError, Global};
@@ -279,7 +279,8 @@ fn hint_for_scenario_text<R, W>(
     fault: ScenarioFault,
 ) -> Hint {
     if tells_workflow(alloc, text)? {
-        return hint_for_scenario_of_workflow(alloc, takes_workflow(run.verdict), fault);
+        let is_taken = takes_workflow(run.verdict) && !asks_for_outages(alloc, run)?;
+        return hint_for_scenario_of_workflow(alloc, is_taken, fault);
     }
     let asked = asked_of_input(run);
     hint_for_scenario_or_group(alloc, run.verdict, text, asked, fault)
@@ -439,11 +440,11 @@ fn hint_for_long_batch(alloc: Global, most: usize) -> Result<String, AllocError>
 /// The hint for a search that did not end, or traffic that does not attain the ceiling.
 fn hint_for_open<R, W>(alloc: Global, run: &Finished<'_, R, W>) -> Hint {
     if let Some(simulations) = traffic_sought(run.verdict) {
-        let with_outages = asks_for_outages(run.verdict);
+        let with_outages = asks_for_outages(alloc, run)?;
         let hint = hint_for_ceiling(alloc, with_outages, simulations, MOST_SIMULATIONS)?;
         return Ok(Some(hint));
     }
-    if asks_for_outages(run.verdict) {
+    if asks_for_outages(alloc, run)? {
         return hint_for_open_through_outages(alloc).map(Some);
     }
     let Some(options) = options_of(run.verdict) else {
@@ -502,22 +503,40 @@ fn traffic_sought(verdict: &Verdict) -> Option<u64> {
     }
 }
 
-/// Whether the command line asks what no latency is above through outages.
-fn asks_for_outages(verdict: &Verdict) -> bool {
-    match task_of(verdict) {
-        Some(
-            Task::Scenario {
-                what: ScenarioTask::Ceiling { outage, .. },
+/// Whether it was asked what no latency is above through outages, on the command line or in the text.
+fn asks_for_outages<R, W>(alloc: Global, run: &Finished<'_, R, W>) -> Result<bool, AllocError> {
+    match option_for_outages(run.verdict) {
+        Some(false) if run.reader.is_whole() => tells_outages(alloc, run.reader.text()),
+        Some(is_given) => Ok(is_given),
+        None => Ok(false),
+    }
+}
+
+/// Whether the command line asks for that; None where it asks for what is not told through outages, whatever the text says.
+fn option_for_outages(verdict: &Verdict) -> Option<bool> {
+    match task_of(verdict)? {
+        Task::Scenario {
+            what: ScenarioTask::Ceiling { outage, .. },
+            ..
+        }
+        | Task::Ceilings { outage, .. }
+        | Task::Search {
+            what: SearchTask::Latency {
+                outage,
+                accept: None,
                 ..
             }
-            | Task::Ceilings { outage, .. }
-            | Task::Search {
-                what: SearchTask::Latency { outage, .. } | SearchTask::Survey { outage, .. },
-                ..
-            },
-        ) => outage.is_some(),
-        _ => false,
+            | SearchTask::Survey { outage, .. },
+            ..
+        } => Some(outage.is_some()),
+        _ => None,
     }
+}
+
+/// Whether a text says how long outages last.
+fn tells_outages(alloc: Global, text: &[u8]) -> Result<bool, AllocError> {
+    let outage = outage_of_text(alloc, text)?;
+    Ok(outage.is_some())
 }
 
 /// Whether the command line asks for the greatest latency where replicas have to answer.

@@ -31,7 +31,7 @@ pub(crate) fn hint_for_workflow(alloc: Global, fault: WorkflowFault) -> Result<S
             "hint: 'from' of the target names a message that the target follows, be it through others\n"
         ),
         WorkflowFault::OriginWaits => format!(in alloc;
-            "hint: the time counts from a message that follows no other and has no 'until': only how far others are from it matters, so give these windows around it\n"
+            "hint: the message from which the time counts has so long a window, or so late a one, that with those of others it is longer than a window may be: only how far others are from it matters, so give it a shorter one, and these windows around it\n"
         ),
     }
 }
@@ -46,7 +46,7 @@ pub(crate) fn hint_for_scenario_of_workflow(
         return hint_for_workflow(alloc, WorkflowFault::Scenario(fault)).map(Some);
     }
     format!(in alloc;
-        "hint: in this text messages follow others ('after', 'on', or 'from' of the target): 'latency' takes it, without '--ceiling', '--outage' and '--accept', 'analyse' writes a certificate of it, and 'scenario' a late run that other commands take\n"
+        "hint: in this text messages follow others ('after', 'on', or 'from' of the target): 'latency' takes it, without '--ceiling', '--accept' and outages, 'analyse' writes a certificate of it, and 'scenario' a late run that other commands take\n"
     ).map(Some)
 }
 

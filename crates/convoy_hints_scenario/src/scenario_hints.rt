@@ -237,9 +237,32 @@ fn names_target(asked: &Asked) -> bool {
 fn hint_for_key(alloc: Global, source: ScenarioText<'_>, placed: &Placed) -> Hint {
     match placed.fault {
         ScenarioFault::Shape(key) => hint_for_shape(alloc, source, placed.table, key),
+        ScenarioFault::NoRange => hint_for_slow(alloc, source, placed, NO_WAY).map(Some),
+        ScenarioFault::OverLimit(Limit::Link) => {
+            hint_for_slow(alloc, source, placed, NO_ADDED_RANGE).map(Some)
+        }
         _ => Ok(None),
     }
 }
+
+/// What is wrong with the range of a message.
+fn hint_for_slow(
+    alloc: Global,
+    source: ScenarioText<'_>,
+    placed: &Placed,
+    rule: &str,
+) -> Result<String, AllocError> {
+    let part = source.part(placed.table);
+    format!(in alloc; "'least' and 'most' in {part} are added to the range from its sender: {rule}")
+}
+
+/// What to write where the range from a slow message's sender is not written.
+const NO_WAY: &str =
+    "write a table [[link]] from there to each group that it goes to, or 'delay' and 'least' above the first header";
+
+/// What the range of a slow message has to be.
+const NO_ADDED_RANGE: &str =
+    "write a least time of 0 or more and a greatest one that is not less, of at most 65535 ticks";
 
 /// What is wrong with the times of a scenario, so that they can't be told in ticks, or with what these write.
 fn hint_for_times(

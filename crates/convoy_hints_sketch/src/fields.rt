@@ -59,6 +59,7 @@ pub(crate) fn field_at(table: ScenarioTable, key: Key) -> Field {
         Key::Stamps => (Kind::Flag, "stamps = true"),
         Key::Agree => (Kind::Range, "agree = [1, 3]"),
         Key::Steps => (Kind::Text, "steps = \"twice\""),
+        Key::Outage => (Kind::Time, "outage = 400"),
         Key::Schedule => (Kind::Integers, "schedule = [1, 3, 1, 2]"),
         Key::Order => (Kind::Integers, "order = [0, 1, 0, 0]"),
         Key::Unknown => (Kind::Text, ""),
@@ -81,6 +82,7 @@ pub(crate) fn lasting_field(key: Key) -> Option<Field> {
         Key::At => "at = \"0 ms\"",
         Key::Until => "until = \"10 ms\"",
         Key::Within => "within = \"400 ms\"",
+        Key::Outage => "outage = \"5 s\"",
         _ => return None,
     };
     Some(Field {
@@ -100,6 +102,8 @@ pub(crate) fn keys_of(table: ScenarioTable) -> &'static [Key] {
             Key::At,
             Key::Until,
             Key::Within,
+            Key::Least,
+            Key::Most,
         ],
         ScenarioTable::Target => &[Key::Message, Key::Group],
         ScenarioTable::Link(_) => &[
@@ -129,7 +133,7 @@ pub(crate) fn words_beside(table: ScenarioTable) -> &'static [&'static str] {
 }
 
 /// The keys above the first header.
-pub(crate) const TOP_KEYS: [Key; 12] = [
+pub(crate) const TOP_KEYS: [Key; 13] = [
     Key::Time,
     Key::Tick,
     Key::Delay,
@@ -140,6 +144,7 @@ pub(crate) const TOP_KEYS: [Key; 12] = [
     Key::Target,
     Key::Link,
     Key::Group,
+    Key::Outage,
     Key::Schedule,
     Key::Order,
 ];

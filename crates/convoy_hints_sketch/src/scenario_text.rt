@@ -18,7 +18,7 @@ pub struct ScenarioText<'a> {
 impl<'a> ScenarioText<'a> {
     /// One of its tables; None where it has none such.
     pub(crate) fn table_at(&self, table: ScenarioTable) -> Option<&'a Table> {
-        match table {
+        match self.written_in(table) {
             ScenarioTable::Top => Some(self.table),
             ScenarioTable::Multicast(number) => self
                 .items_at(Key::Multicast)
@@ -28,6 +28,24 @@ impl<'a> ScenarioText<'a> {
             ScenarioTable::Link(number) => self.items_at(Key::Link).get(number)?.as_table(),
             ScenarioTable::Group(number) => self.items_at(Key::Group).get(number)?.as_table(),
         }
+    }
+
+    /// The table in which that is written: the links from the own places of slow messages, which follow those of all tables
+    /// of links, are written in the tables of these messages.
+    fn written_in(&self, table: ScenarioTable) -> ScenarioTable {
+        let ScenarioTable::Link(number) = table else {
+            return table;
+        };
+        let Some(mut left) = number.checked_sub(self.items_at(Key::Link).len()) else {
+            return table;
+        };
+        for (message, item) in self.items_at(Key::Multicast).iter().enumerate() {
+            let Some(others) = left.checked_sub(own_links(item)) else {
+                return ScenarioTable::Multicast(message);
+            };
+            left = others;
+        }
+        table
     }
 
     /// Whether one of its times is a number, which counts ticks.
@@ -40,6 +58,7 @@ impl<'a> ScenarioText<'a> {
 
     /// One of its tables, as a person finds it.
     pub fn part(&self, table: ScenarioTable) -> Part<'a> {
+        let table = self.written_in(table);
         let among = match table {
             ScenarioTable::Top | ScenarioTable::Target => 1,
             ScenarioTable::Multicast(_) => self.items_at(Key::Multicast).len(),
@@ -67,6 +86,18 @@ impl<'a> ScenarioText<'a> {
             Some(items) => items.as_slice(),
             None => &[],
         }
+    }
+}
+
+/// How many links lead from the own place of a message; none where it has no range.
+fn own_links(message: &Value) -> usize {
+    let Some(table) = message.as_table() else {
+        return 0;
+    };
+    let is_slow = table.contains_key(Key::Least.word()) && table.contains_key(Key::Most.word());
+    match table.get(Key::To.word()).and_then(Value::as_array) {
+        Some(groups) if is_slow => groups.len(),
+        _ => 0,
     }
 }
 

@@ -110,10 +110,48 @@ fn hint_for_value(
         (Key::Both, _) if leads_back_to_clients(table) => format!(in alloc;
             "'both' in {part} is true, and nothing is sent to clients: name the groups in 'from', or leave 'both' out"
         ),
+        (Key::Least | Key::Most, _) if is_added(part.table) && is_time(value, time) => {
+            format!(in alloc;
+                "'{key}' in {part} is added to the range from its sender: write both as durations, or both as numbers of ticks"
+            )
+        }
+        (Key::Link, _) if part.table == ScenarioTable::Top && value.is_array() => hint_for_share(
+            alloc, field, value, part,
+        ),
         _ if matches!(field.kind, Kind::Time | Kind::Duration) => {
             hint_for_when(alloc, key, field, value, part, time)
         }
         _ => hint_for_kind(alloc, key, field, value, part),
+    }
+}
+
+/// Whether what stands in the table is added to the range of a link.
+fn is_added(table: ScenarioTable) -> bool {
+    matches!(table, ScenarioTable::Multicast(_))
+}
+
+/// An array at the key of links is none of tables, or one of these has a share of packets outside its range beside a slow
+/// message.
+fn hint_for_share(
+    alloc: Global,
+    field: Field,
+    value: &Value,
+    part: &Part<'_>,
+) -> Result<String, AllocError> {
+    match value.as_array() {
+        Some(items) if items.iter().any(|item| has_word(item, OUTSIDE)) => String::from_str(
+            alloc,
+            "a table [[link]] has 'outside', and a message has 'least' and 'most': which share of its packets takes longer is not known, so leave one of them out",
+        ),
+        _ => hint_for_kind(alloc, Key::Link, field, value, part),
+    }
+}
+
+/// Whether the value is a table with a key of that word.
+fn has_word(value: &Value, word: &str) -> bool {
+    match value {
+        Value::Table(table) => table.contains_key(word),
+        _ => false,
     }
 }
 

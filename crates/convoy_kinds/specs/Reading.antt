@@ -41,6 +41,7 @@ setting_message setting name sender = record {
   at = Count (pos 0);
   until = None;
   within = None;
+  longer = None;
 }
 
 -- the messages of the setting, so that between all groups, and from clients wherever these send, ranges have to be known: the first one, under a name that no place has, and one from each place that sends, under its name

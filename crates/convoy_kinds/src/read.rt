@@ -215,6 +215,7 @@ fn setting_message(
         at: WrittenTime::Count(0),
         until: None,
         within: None,
+        longer: None,
     })
 }
 

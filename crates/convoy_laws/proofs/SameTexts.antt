@@ -20,7 +20,8 @@ use Rattle.convoy_scenario.proofs.NumberedLemmas.{passes}
 use Rattle.convoy_toml.specs.declared.target.TargetKey.TheVariants.{Required}
 use Rattle.convoy_toml.specs.Reading.{InputView, as_written, input_of_table, input_of_text, input_of_written, need_ranges, scenario_of_input, scenario_of_text, scenario_of_written, table_of_text}
 use Rattle.convoy_toml.specs.Deadlines.{deadlines_of_written}
-use Rattle.convoy_toml.specs.Shape.{Written, WrittenScenario, written_of_table}
+use Rattle.convoy_toml.specs.Shape.{Written, WrittenScenario}
+use Rattle.convoy_toml.specs.Slow.{written_of_table}
 use Rattle.convoy_toml.specs.Times.{draft_of_written, need_least, tick_of}
 use Rattle.convoy_toml.specs.Ways.{has_ranges, with_least}
 use Rattle.convoy_toml.proofs.FinerDrafts.{after_ok, drafts_finer, finer_ticks, of_tick, plain_draft, same_ok, tick_kept}

@@ -55,7 +55,7 @@ written tick = record {
     places = [];
     agreements = [];
     links = [];
-    messages = record { name = codes "t"; sender = None; to = codes "a" ∷ codes "b" ∷ []; at = Lasting 0; until = None; within = None } ∷ [];
+    messages = record { name = codes "t"; sender = None; to = codes "a" ∷ codes "b" ∷ []; at = Lasting 0; until = None; within = None; longer = None } ∷ [];
     target_message = codes "t";
     target_group = codes "a";
   };

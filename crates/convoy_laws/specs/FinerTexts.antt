@@ -7,7 +7,8 @@ use Rattle.convoy_draft.specs.declared.time.Time.TheVariants.{Real}
 use Rattle.convoy_scenario.specs.Scenario.{Scenario}
 use Rattle.convoy_toml.specs.declared.target.TargetKey.TheVariants.{Required}
 use Rattle.convoy_toml.specs.Reading.{scenario_of_text, table_of_text}
-use Rattle.convoy_toml.specs.Shape.{Written, written_of_table}
+use Rattle.convoy_toml.specs.Shape.{Written}
+use Rattle.convoy_toml.specs.Slow.{written_of_table}
 use Rattle.convoy_toml.specs.Times.{is_lasting, tick_of, times_of}
 use Rattle.convoy_sim.specs.Greatest.{IsGreatest}
 

@@ -1,5 +1,5 @@
 -- What is drawn of a run, as plain numbers.
-use Rattle.std.specs.Prelude.{ℕ, ◌+◌, not, List, map}
+use Rattle.std.specs.Prelude.{ℕ, ◌+◌, not, List, map, slice_index_or}
 use Rattle.std.specs.List.{enumerate_from, filter}
 use Rattle.convoy_scenario.specs.Scenario.{Scenario, message_at, message_numbers}
 use Rattle.convoy_packets.specs.declared.packet.Packet.{Packet}
@@ -44,6 +44,10 @@ pub record Picture : Type 0 where
   pub issues : List Tick
   pub entries : List Entry
   pub why : Explanation
+
+-- the tick at which a message is issued; 0 where the picture has no such message
+abbrev pub issued_at : Picture → ℕ → Tick
+issued_at picture m = slice_index_or picture.issues m 0
 
 -- the picture of the run that follows from a schedule
 abbrev pub picture_of : Scenario → Schedule → Picture

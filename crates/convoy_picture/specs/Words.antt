@@ -1,5 +1,5 @@
 -- What is told of a picture in words: the answer and its reason, each packet on its way, and what happens at each group.
-use Rattle.std.specs.Prelude.{ℕ, ◌-◌, List, ◌∷◌, ◌++◌, Option, None, Some, codes, decimal}
+use Rattle.std.specs.Prelude.{ℕ, ◌-◌, ◌==◌, if◌then◌else◌, List, [], ◌∷◌, ◌++◌, Option, None, Some, codes, decimal}
 use Rattle.convoy_scenario.specs.Scenario.{Scenario, group_name_at, message_at}
 use Rattle.convoy_packets.specs.Assignment.{receiver_of}
 use Rattle.convoy_packets.specs.declared.packet.Packet.{Packet}
@@ -12,13 +12,24 @@ use Rattle.convoy_timeline.specs.Explanations.{message_name_at, sender_text, sta
 use Rattle.convoy_timeline.specs.declared.explanation.Explanation.{Explanation}
 use Rattle.convoy_timeline.specs.declared.explanation.Holder.{Holder}
 use Rattle.convoy_picture.specs.declared.flight.Flight.{Flight}
+use Rattle.convoy_picture.specs.Pictures.{Picture, issued_at}
 
--- how late the target is at worst, in ticks and as a time where there is a measure
-unfoldable pub answer_text : Option Measure → Scenario → Explanation → List ℕ
-answer_text measure scenario why =
+-- the time from the issue of message x to the delivery of the target, in ticks: its latency, where x is the target itself
+abbrev pub time_since : Scenario → Picture → ℕ → ℕ
+time_since scenario picture x =
+    if x == scenario.target_message then picture.why.latency else (picture.why.delivered - issued_at picture x)
+
+-- from whose issue time counts, where that is not the target itself
+abbrev pub since_text : Scenario → ℕ → List ℕ
+since_text scenario x =
+    if x == scenario.target_message then [] else (codes ", from the issue of " ++ message_name_at scenario x)
+
+-- how late the target is at worst from the issue of message x, in ticks and as a time where there is a measure
+unfoldable pub answer_text : Option Measure → Scenario → Picture → ℕ → List ℕ
+answer_text measure scenario picture x =
     message_name_at scenario scenario.target_message
     ++ (codes " at " ++ (group_name_at scenario scenario.target_group
-    ++ (codes ": at worst " ++ ticks_text measure why.latency)))
+    ++ (codes ": at worst " ++ (ticks_text measure (time_since scenario picture x) ++ since_text scenario x))))
 
 -- when the target is committed and delivered, and what it waits for between the two
 abbrev pub outcome_text : Scenario → Explanation → Option Holder → List ℕ

@@ -1,3 +1,6 @@
+ghost use Rattle.std.specs.Prelude.{◌≡◌};
+ghost use Rattle.convoy_picture.specs.Pictures.{issued_at};
+
 use super::sheet::lane_of;
 use crate::Picture;
 use convoy_scenario::lookup::sender_of;
@@ -53,7 +56,9 @@ pub fn issue_mark(scenario: &Scenario, picture: &Picture, message: usize) -> Mar
 }
 
 /// The tick at which a message is issued; 0 where the picture has no such message.
-pub(crate) fn issue_tick(picture: &Picture, message: usize) -> u32 {
+pub(crate) fn issue_tick(picture: &Picture, message: usize) -> u32
+    ensures { result ≡ issued_at picture.now message }
+{
     picture.issues().get(message).copied().unwrap_or(0)
 }
 

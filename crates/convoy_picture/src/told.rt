@@ -1,8 +1,10 @@
 ghost use Rattle.std.specs.Prelude.{◌≡◌, IfOk, string_bytes};
-ghost use Rattle.convoy_picture.specs.Words.{answer_text, doing_text, entry_text, flight_text, load_text, outcome_text, reason_text, way_text};
+ghost use Rattle.convoy_picture.specs.Words.{answer_text, doing_text, entry_text, flight_text, load_text, outcome_text, reason_text, since_text, time_since, way_text};
 ghost use Rattle.convoy_packets.specs.Assignment.{receiver_of};
 
 use super::flight::Flight;
+use super::mark::issue_tick;
+use super::picture::Picture;
 use convoy_packets::Packet;
 use convoy_scenario::lookup::sender_of;
 use convoy_scenario::naming::{group_name, message_name};
@@ -11,20 +13,47 @@ use convoy_timeline::{Entry, EntryKind, Explanation, sender_text, stamp_text, ti
 use convoy_times::Measure;
 use std::alloc::Global;
 
-/// The answer: how late the target of the scenario is at worst, in ticks, and as a time where there is a measure, by the explanation of a run (docs/FORMATS.md, "What `draw` writes"). Fails where memory runs out, and else never.
+/// The answer: how late the target of the scenario is at worst, in ticks, and as a time where there is a measure, by the
+/// picture of a run (docs/FORMATS.md, "What `draw` writes"). Time counts from the issue of message `origin`, which is named
+/// where it is not the target. Fails where memory runs out, and else never.
 #[tactic(auto, unfolding(crate::specs::Words::answer_text))]
 pub fn answer_words(
     alloc: Global,
     scenario: &Scenario,
     measure: &Option<Measure>,
-    why: &Explanation,
+    picture: &Picture,
+    origin: usize,
 ) -> AllocResult<String>
-    ensures { IfOk result (λ words. string_bytes words ≡ answer_text measure.now scenario.now why.now) }
+    ensures { IfOk result (λ words. string_bytes words ≡ answer_text measure.now scenario.now picture.now origin) }
 {
     let message = message_name(scenario, scenario.target_message());
     let group = group_name(scenario, scenario.target_group());
-    let latency = ticks_text(alloc, *measure, why.latency)?;
-    format!(in alloc; "{message} at {group}: at worst {latency}")
+    let long = ticks_text(alloc, *measure, time_since(scenario, picture, origin))?;
+    let since = since_words(alloc, scenario, origin)?;
+    format!(in alloc; "{message} at {group}: at worst {long}{since}")
+}
+
+/// The time from the issue of a message to the delivery of the target, in ticks.
+fn time_since(scenario: &Scenario, picture: &Picture, origin: usize) -> u32
+    ensures { result ≡ time_since scenario.now picture.now origin }
+{
+    let why = picture.why();
+    if origin == scenario.target_message() {
+        why.latency
+    } else {
+        why.delivered.saturating_sub(issue_tick(picture, origin))
+    }
+}
+
+/// From whose issue time counts, where that is not the target itself.
+fn since_words(alloc: Global, scenario: &Scenario, origin: usize) -> AllocResult<String>
+    ensures { IfOk result (λ words. string_bytes words ≡ since_text scenario.now origin) }
+{
+    if origin == scenario.target_message() {
+        Ok(String::new(alloc))
+    } else {
+        format!(in alloc; ", from the issue of {}", message_name(scenario, origin))
+    }
 }
 
 /// Why the target of the scenario is so late, in a line: who issues it and when, what it waits for by the

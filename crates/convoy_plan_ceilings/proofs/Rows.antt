@@ -42,6 +42,7 @@ written = record {
       at = Count (pos 0);
       until = None;
       within = None;
+      longer = None;
     } ∷ [];
     target_message = codes "m";
     target_group = codes "a";

@@ -167,7 +167,7 @@ sender_is plan is differ (Group k) within =
 -- ---- the messages
 
 nothing_written : WrittenMessage
-nothing_written = record { name = []; sender = None; to = []; at = Count (pos 0); until = None; within = None }
+nothing_written = record { name = []; sender = None; to = []; at = Count (pos 0); until = None; within = None; longer = None }
 
 sent_from : (plan : Plan) → IsPlan plan → (i : ℕ) → i < length plan.written.messages → (get_or plan.written.messages i nothing_written).sender ≡ Some (name_of plan (origin_of plan i))
 sent_from plan is i within =

@@ -35,6 +35,7 @@ message from = record {
   at = Count (pos 0);
   until = None;
   within = None;
+  longer = None;
 }
 
 abbrev links : List WrittenLink

@@ -14,7 +14,8 @@ use Rattle.convoy_draft.specs.declared.fault.Key.TheVariants.{Unknown}
 use Rattle.convoy_draft.specs.declared.fault.ScenarioFault.{ScenarioFault}
 use Rattle.convoy_draft.specs.declared.fault.ScenarioFault.TheVariants as scenario
 use Rattle.convoy_toml.specs.declared.target.TargetKey.{TargetKey}
-use Rattle.convoy_toml.specs.Shape.{all_of, as_names, scenario_of_table}
+use Rattle.convoy_toml.specs.Shape.{all_of, as_names}
+use Rattle.convoy_toml.specs.Slow.{scenario_without_slow}
 use Rattle.convoy_plans.specs.declared.fault.PlanFault.{PlanFault}
 use Rattle.convoy_plans.specs.declared.fault.PlanFault.TheVariants.{Scenario, Shape}
 use Rattle.convoy_plans.specs.declared.fault.PlanKey.{PlanKey}
@@ -97,7 +98,7 @@ apart_of_table table = wish Apart as_lists table >>= λ lists. Ok (unwrap_or lis
 -- what is written in a plan's table, which has no other key
 abbrev pub plan_of_table : TargetKey → Members → Result WrittenPlan PlanFault
 plan_of_table key table = do
-  scenario ← of_scenario (scenario_of_table key table)
+  scenario ← of_scenario (scenario_without_slow key table)
   sites ← need Sites as_texts table
   tables ← need Group as_tables table
   homes ← homes_of tables

@@ -112,6 +112,7 @@ fn message_in(
         at: message.at,
         until: message.until,
         within: message.within,
+        longer: message.longer,
     })
 }
 

@@ -7,7 +7,8 @@ ghost use Rattle.toml.specs.Data.{as_str, as_table, get_member};
 ghost use Rattle.toml.specs.View.{array_view, table_view, view};
 ghost use Rattle.convoy_draft.specs.declared.fault.ScenarioFault.TheVariants.{Memory};
 ghost use Rattle.convoy_scenario.specs.Memory.{IsUnlessMemory};
-ghost use Rattle.convoy_toml.specs.Shape.{all_of, as_names, names_in, scenario_of_table};
+ghost use Rattle.convoy_toml.specs.Shape.{all_of, as_names, names_in};
+ghost use Rattle.convoy_toml.specs.Slow.{scenario_without_slow};
 ghost use Rattle.convoy_plans.specs.declared.fault.PlanKey.TheVariants.{Group, Sites};
 ghost use Rattle.convoy_plans.specs.declared.fault.PlanFault.TheVariants.{Scenario, Shape};
 ghost use Rattle.convoy_plans.specs.Shape.{apart_of_table, as_tables, as_texts, has_only, home_of_table, homes_of, listed, need, need_only, of_scenario, plan_of_table, plan_word, tables_listed};
@@ -16,7 +17,7 @@ use super::fault::{PlanFault, PlanKey};
 use super::lists::Names;
 use super::written::{Home, WrittenPlan};
 use convoy_scenario::{Key, Name, ScenarioFault};
-use convoy_toml::{TargetKey, WrittenScenario, scenario_of_table};
+use convoy_toml::{TargetKey, WrittenScenario, scenario_without_slow};
 use std::alloc::Global;
 use toml::value::Array;
 use toml::{Table, Value};
@@ -237,9 +238,9 @@ fn scenario_in(
     target: &TargetKey,
 ) -> Result<WrittenScenario, PlanFault>
     ensures { IsUnlessMemory (Scenario Memory)
-        (of_scenario (scenario_of_table target.now (table_view table.now))) result }
+        (of_scenario (scenario_without_slow target.now (table_view table.now))) result }
 {
-    match scenario_of_table(alloc, table, target) {
+    match scenario_without_slow(alloc, table, target) {
         Ok(scenario) => Ok(scenario),
         Err(placed) => Err(PlanFault::from(ScenarioFault::from(placed))),
     }

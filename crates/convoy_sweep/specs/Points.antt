@@ -10,7 +10,8 @@ use Rattle.convoy_toml.specs.declared.around.Around.{Around}
 use Rattle.convoy_toml.specs.declared.asked.Asked.{Asked}
 use Rattle.convoy_toml.specs.Around.{asked_around}
 use Rattle.convoy_toml.specs.Reading.{scenario_of_text_by, scenario_of_written, table_of_text}
-use Rattle.convoy_toml.specs.Shape.{WrittenScenario, written_of_table}
+use Rattle.convoy_toml.specs.Shape.{WrittenScenario}
+use Rattle.convoy_toml.specs.Slow.{written_of_table}
 use Rattle.convoy_toml.specs.Times.{tick_of}
 use Rattle.convoy_sweep.specs.declared.fault.SettingFault.{SettingFault}
 use Rattle.convoy_sweep.specs.declared.fault.SweepFault.{SweepFault}

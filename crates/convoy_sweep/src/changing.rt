@@ -143,6 +143,7 @@ fn message_with(
         at: at_with(key, given, message),
         until: until_with(key, given, message),
         within: message.within,
+        longer: message.longer,
     })
 }
 

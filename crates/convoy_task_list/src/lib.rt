@@ -6,6 +6,7 @@ pub use of_kinds::KindsTask;
 pub use of_plans::PlanTask;
 pub use of_scenarios::ScenarioTask;
 pub use of_traces::TraceTask;
+pub use outages::outage_by;
 pub use searches::SearchTask;
 pub use task::Task;
 
@@ -14,5 +15,6 @@ mod of_kinds;
 mod of_plans;
 mod of_scenarios;
 mod of_traces;
+mod outages;
 mod searches;
 mod task;

@@ -92,7 +92,7 @@ use Rattle.convoy_trace_ranges.specs.LinkTables.{trace_table_text}
 use Rattle.convoy_workflow_replies.specs.declared.reference.Reference.{Reference}
 use Rattle.convoy_workflow_replies.specs.declared.reference.Reference.TheVariants as references
 use Rattle.convoy_workflow_replies.specs.WorkflowForms.{is_workflow_certificate, told_text}
-use Rattle.convoy_tasks.specs.Tasks.{check_against, check_by, form_says, greatest_says, kinds_say, latency_by, of_scenario_says, of_workflow_says, plan_says, proof_says, scenario_says, search_says, scenario_wanted, survey_by, task_says, telling_says, tells_late_run, trace_of_says}
+use Rattle.convoy_tasks.specs.Tasks.{check_against, check_by, form_says, greatest_says, kinds_say, latency_by, latency_through_by, of_scenario_says, of_workflow_says, outage_told, plan_says, proof_says, scenario_says, search_says, scenario_wanted, survey_through_by, task_says, telling_says, tells_late_run, trace_of_says}
 
 -- the fault of an answer is that of the reply
 fault_of_fine : (answer : Result (List ℕ) Fault) (fault : Fault) → Err fault ≡ fine answer → answer ≡ Err fault
@@ -182,15 +182,20 @@ greatest_no_device true with_ceiling asked settings text fault faulty = rw fault
 greatest_no_device false true asked settings text fault says = search_no_device asked text fault says
 greatest_no_device false false asked settings text fault says = search_no_device asked text fault says
 
+latency_through_no_device : (outage : Option Outage) (with_ceiling : Bool) (asked : Asked) (settings : Settings) (text : List ℕ) (fault : Fault)
+    → latency_through_by outage with_ceiling asked settings text (Err fault) → IsNoDevice fault
+latency_through_no_device None with_ceiling asked settings text fault says =
+    greatest_no_device (not with_ceiling && is_workflow_text text) with_ceiling asked settings text fault says
+latency_through_no_device (Some outage) with_ceiling asked settings text fault says = through_no_device outage asked text fault says
+
 latency_no_device : (accept : Option WrittenTime) (outage : Option Outage) (with_ceiling : Bool) (asked : Asked) (settings : Settings) (text : List ℕ) (fault : Fault)
     → latency_by accept outage with_ceiling asked settings text (Err fault) → IsNoDevice fault
-latency_no_device None None with_ceiling asked settings text fault says =
-    greatest_no_device (not with_ceiling && is_workflow_text text) with_ceiling asked settings text fault says
-latency_no_device None (Some outage) with_ceiling asked settings text fault says = through_no_device outage asked text fault says
+latency_no_device None outage with_ceiling asked settings text fault says =
+    latency_through_no_device (outage_told outage text) with_ceiling asked settings text fault says
 latency_no_device (Some accept) outage with_ceiling asked settings text fault says = accepted_no_device accept asked text fault says
 
 survey_no_device : (outage : Option Outage) (format : Format) (with_ceilings : Bool) (asked : Asked) (settings : Settings) (text : List ℕ) (fault : Fault)
-    → survey_by outage format with_ceilings asked settings text (Err fault) → IsNoDevice fault
+    → survey_through_by outage format with_ceilings asked settings text (Err fault) → IsNoDevice fault
 survey_no_device None format with_ceilings asked settings text fault says = search_no_device asked text fault says
 survey_no_device (Some outage) format with_ceilings asked settings text fault says = through_no_device outage asked text fault says
 
@@ -318,12 +323,12 @@ beside_no_device (Some scenario) format unit text fault is = told_beside_no_devi
 scenario_says_no_device : (what : ScenarioTask) (asked : Asked) (text : List ℕ) (fault : Fault) → scenario_says what asked text (Err fault) → IsNoDevice fault
 scenario_says_no_device scenario_tasks.First asked text fault says = first_no_device asked text fault (fault_of_fine (first_text asked text) fault says)
 scenario_says_no_device scenario_tasks.Text asked text fault says = search_no_device asked text fault says
-scenario_says_no_device (scenario_tasks.Ceiling simulations outage unit) asked text fault says = ceiling_no_device outage asked unit text fault says
+scenario_says_no_device (scenario_tasks.Ceiling simulations outage unit) asked text fault says = ceiling_no_device (outage_told outage text) asked unit text fault says
 
 search_says_no_device : (what : SearchTask) (asked : Asked) (settings : Settings) (text : List ℕ) (fault : Fault) → search_says what asked settings text (Err fault) → IsNoDevice fault
 search_says_no_device searches.Analyse asked settings text fault says = proof_no_device (is_workflow_text text) asked settings text fault says
 search_says_no_device (searches.Latency with_ceiling outage accept) asked settings text fault says = latency_no_device accept outage with_ceiling asked settings text fault says
-search_says_no_device (searches.Survey format with_ceilings outage) asked settings text fault says = survey_no_device outage format with_ceilings asked settings text fault says
+search_says_no_device (searches.Survey format with_ceilings outage) asked settings text fault says = survey_no_device (outage_told outage text) format with_ceilings asked settings text fault says
 search_says_no_device (searches.WhatIf format shows_all) asked settings text fault says = what_if_no_device format shows_all asked settings text fault says
 search_says_no_device searches.Report asked settings text fault says = report_no_device asked settings text fault says
 search_says_no_device (searches.Budget format of_all of_ceiling) asked settings text fault says = budget_no_device format of_all of_ceiling asked settings text fault says
@@ -376,7 +381,7 @@ trace_of_no_device (trace_tasks.Beside format unit) wanted text fault says = bes
 pub says_no_device : (task : Task) (wanted : Option Reference) (text : List ℕ) (fault : Fault) → task_says task wanted text (Err fault) → IsNoDevice fault
 says_no_device (Tell telling) wanted text fault says = telling_no_device (tells_late_run telling (told_text text)) telling (told_text text) fault says
 says_no_device (OfScenario asked what) wanted text fault says = scenario_says_no_device what asked text fault says
-says_no_device (Ceilings format group simulations outage asked unit) wanted text fault says = ceilings_no_device format outage asked unit (option_map string_bytes group) text fault says
+says_no_device (Ceilings format group simulations outage asked unit) wanted text fault says = ceilings_no_device format (outage_told outage text) asked unit (option_map string_bytes group) text fault says
 says_no_device (Search asked options what) wanted text fault says = search_says_no_device what asked options text fault says
 says_no_device (BatchTable format asked options tells_status) wanted text fault says = rw says.0 tt
 says_no_device (Plan targets asked what) wanted text fault says = plan_says_no_device what targets asked text fault says

@@ -4,6 +4,7 @@ pub use Rattle.convoy_streams.specs.Devices
 pub use Rattle.convoy_streams.specs.Reads
 pub use Rattle.convoy_streams.specs.Writes
 pub use Rattle.convoy_toml.specs.Reading
+pub use Rattle.convoy_task_list.specs.Outages
 pub use Rattle.convoy_branch.specs.Options
 pub use Rattle.convoy_commands.specs.Ends
 pub use Rattle.convoy_commands.specs.Faults

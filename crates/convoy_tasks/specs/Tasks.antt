@@ -14,7 +14,7 @@ use Rattle.convoy_commands.specs.Searches.{AnalyseSays}
 use Rattle.convoy_commands.specs.Tells.{TellSays}
 use Rattle.convoy_commands.specs.declared.telling.Telling.{Telling}
 use Rattle.convoy_commands.specs.declared.telling.Telling.TheVariants as tellings
-use Rattle.convoy_toml.specs.Reading.{as_written}
+use Rattle.convoy_toml.specs.Reading.{as_written, outage_of_text}
 use Rattle.convoy_commands.specs.WithCeilings.{explain_says, latency_says}
 use Rattle.convoy_commands.specs.Withins.{SaysWithin}
 use Rattle.convoy_outages.specs.declared.outage.Outage.{Outage}
@@ -54,6 +54,7 @@ use Rattle.convoy_text_answers.specs.FitsAnswers.{trace_says}
 use Rattle.convoy_text_answers.specs.KindAnswers.{KindTableSays, WorstKindSays}
 use Rattle.convoy_text_answers.specs.LinkAnswers.{TraceRangesSay, TraceTableSays, beside_says}
 use Rattle.convoy_tables.specs.declared.format.Format.{Format}
+use Rattle.convoy_task_list.specs.Outages.{outage_by}
 use Rattle.convoy_task_list.specs.declared.of_certificates.CertificateTask.{CertificateTask}
 use Rattle.convoy_task_list.specs.declared.of_certificates.CertificateTask.TheVariants as certificates
 use Rattle.convoy_task_list.specs.declared.of_kinds.KindsTask.{KindsTask}
@@ -90,11 +91,24 @@ telling_by telling text = telling_says (tells_late_run telling text) telling tex
 abbrev pub told_by : Telling → Rule
 told_by telling text = telling_by telling (told_text text)
 
+-- the outages that are asked for: those of the option where it is given, or else those that the text tells, if it does
+abbrev pub outage_told : Option Outage → List ℕ → Option Outage
+outage_told (Some outage) text = Some outage
+outage_told None text = option_map outage_by (outage_of_text text)
+
+-- the ceiling, with that through these outages where there are such
+abbrev pub ceiling_by : Option Outage → Asked → Option TimeUnit → Rule
+ceiling_by outage asked unit text = CeilingSays (outage_told outage text) asked unit text
+
+-- the ceilings of all targets, or of those at one group, likewise
+abbrev pub ceilings_by : Format → Option Outage → Asked → Option TimeUnit → Option (List ℕ) → Rule
+ceilings_by format outage asked unit group text = CeilingsSay format (outage_told outage text) asked unit group text
+
 -- what a scenario answers without a search
 abbrev pub scenario_says : ScenarioTask → Asked → Rule
 scenario_says scenarios.First asked = FirstSays asked
 scenario_says scenarios.Text asked = ScenarioTextSays asked
-scenario_says (scenarios.Ceiling simulations outage unit) asked = CeilingSays outage asked unit
+scenario_says (scenarios.Ceiling simulations outage unit) asked = ceiling_by outage asked unit
 
 -- a certificate of the greatest time of a workflow, or of the greatest latency of a scenario
 abbrev pub proof_says : Bool → Asked → Settings → Rule
@@ -119,15 +133,19 @@ abbrev pub latency_through_by : Option Outage → Bool → Asked → Settings �
 latency_through_by None with_ceiling asked settings = latency_told_by with_ceiling asked settings
 latency_through_by (Some outage) with_ceiling asked settings = latency_through_says with_ceiling outage asked settings
 
--- the same, or in place of these two the greatest latency where replicas have to answer, where that is asked for
+-- the same of the outages that the option or the text tells, or in place of these two the greatest latency where replicas have to answer, where that is asked for, whatever outages the text tells
 abbrev pub latency_by : Option WrittenTime → Option Outage → Bool → Asked → Settings → Rule
-latency_by None outage with_ceiling asked settings = latency_through_by outage with_ceiling asked settings
-latency_by (Some accept) outage with_ceiling asked settings = latency_accepted_says accept asked settings
+latency_by None outage with_ceiling asked settings text = latency_through_by (outage_told outage text) with_ceiling asked settings text
+latency_by (Some accept) outage with_ceiling asked settings text = latency_accepted_says accept asked settings text
 
--- the greatest latencies of all targets, likewise
+-- the greatest latencies of all targets, with what none is above through outages where these are asked for
+abbrev pub survey_through_by : Option Outage → Format → Bool → Asked → Settings → Rule
+survey_through_by None format with_ceilings asked settings = SurveySays format with_ceilings asked settings
+survey_through_by (Some outage) format with_ceilings asked settings = SurveyThroughSays format with_ceilings outage asked settings
+
+-- the same of the outages that the option or the text tells
 abbrev pub survey_by : Option Outage → Format → Bool → Asked → Settings → Rule
-survey_by None format with_ceilings asked settings = SurveySays format with_ceilings asked settings
-survey_by (Some outage) format with_ceilings asked settings = SurveyThroughSays format with_ceilings outage asked settings
+survey_by outage format with_ceilings asked settings text = survey_through_by (outage_told outage text) format with_ceilings asked settings text
 
 -- what is found in it by searches with these settings
 abbrev pub search_says : SearchTask → Asked → Settings → Rule
@@ -207,7 +225,7 @@ trace_task_says what wanted = trace_of_says what (scenario_wanted wanted)
 abbrev pub task_says : Task → Option Reference → Rule
 task_says (Tell telling) wanted = told_by telling
 task_says (OfScenario asked what) wanted = scenario_says what asked
-task_says (Ceilings format group simulations outage asked unit) wanted = CeilingsSay format outage asked unit (option_map string_bytes group)
+task_says (Ceilings format group simulations outage asked unit) wanted = ceilings_by format outage asked unit (option_map string_bytes group)
 task_says (Search asked options what) wanted = search_says what asked options
 task_says (BatchTable format asked options tells_status) wanted = BatchTableSays format asked options
 task_says (Plan targets asked what) wanted = plan_says what targets asked

@@ -1,11 +1,10 @@
-ghost use Rattle.std.specs.Prelude.{◌≡◌, ◌<◌, length, string_bytes};
+ghost use Rattle.std.specs.Prelude.{◌≡◌, ◌<◌, IfOk, length, string_bytes};
 ghost use Rattle.std.specs.Option.{option_map};
 ghost use Rattle.convoy_commands.specs.Replies.{SaysUnlessMemory, reply_of};
 ghost use Rattle.convoy_commands.specs.WithCeilings.{explain_says};
 ghost use Rattle.convoy_commands.specs.Withins.{SaysWithin};
 ghost use Rattle.convoy_commands.specs.declared.done.Done.TheVariants.{NotChecked};
-ghost use Rattle.convoy_survey.specs.CeilingTables.{CeilingsSay};
-ghost use Rattle.convoy_tasks.specs.Tasks.{IsToldAtOnce, analyse_by, certificate_says, check_against, check_by, kinds_say, latency_by, latency_through_by, latency_told_by, longest_for, longest_for_plan, of_scenario_says, of_workflow_says, plan_says, scenario_says, scenario_wanted, search_says, survey_by, task_says, telling_by, told_by, trace_of_says, trace_task_says};
+ghost use Rattle.convoy_tasks.specs.Tasks.{IsToldAtOnce, analyse_by, ceiling_by, ceilings_by, certificate_says, check_against, check_by, kinds_say, latency_by, latency_through_by, latency_told_by, longest_for, longest_for_plan, of_scenario_says, of_workflow_says, outage_told, plan_says, scenario_says, scenario_wanted, search_says, survey_by, survey_through_by, task_says, telling_by, told_by, trace_of_says, trace_task_says};
 ghost use Rattle.convoy_commands.specs.declared.telling.Telling.TheVariants.{Toml};
 
 use super::scenario_text::answer_scenario;
@@ -31,13 +30,13 @@ use convoy_survey::{ceilings_answer, survey_answer};
 use convoy_sweep::{curve_told, sweep_told};
 use convoy_tables::Format;
 use convoy_task_list::{
-    CertificateTask, KindsTask, PlanTask, ScenarioTask, SearchTask, Task, TraceTask,
+    CertificateTask, KindsTask, PlanTask, ScenarioTask, SearchTask, Task, TraceTask, outage_by,
 };
 use convoy_text_answers::{
     answer_beside, answer_fits, answer_kinds, answer_trace_ranges, answer_trace_table,
     answer_worst_kind, check_answer,
 };
-use convoy_toml::{Asked, WrittenTime};
+use convoy_toml::{Asked, WrittenTime, outage_of_text};
 use convoy_what_if::what_if_answer;
 use convoy_workflow_answers::{late_run_answer, workflow_latency_answer, workflow_proof_answer};
 use convoy_workflow_replies::{
@@ -45,7 +44,7 @@ use convoy_workflow_replies::{
     is_workflow_certificate, told_text,
 };
 use convoy_workflows::is_workflow;
-use std::alloc::Global;
+use std::alloc::{AllocError, Global};
 use std::sync::Wait;
 use std::thread::Threads;
 
@@ -184,7 +183,40 @@ fn answer_of_scenario(
             simulations,
             outage,
             unit,
-        } => ceiling_answer(alloc, *simulations, *outage, asked, *unit, text),
+        } => answer_ceiling(alloc, *simulations, *outage, asked, *unit, text),
+    }
+}
+
+/// The ceiling, and that through outages where the option or the text tells some.
+fn answer_ceiling(
+    alloc: Global,
+    simulations: u64,
+    outage: Option<Outage>,
+    asked: &Asked,
+    unit: Option<TimeUnit>,
+    text: &[u8],
+) -> Result<Answer, Fault>
+    ensures { SaysUnlessMemory (ceiling_by outage asked.now unit) text.now (reply_of result) }
+{
+    let outage = outage_told(alloc, outage, text)?;
+    ceiling_answer(alloc, simulations, outage, asked, unit, text)
+}
+
+/// The outages that are asked for: those of the option where it is given, and then the text is not looked at, or else those
+/// that its key `outage` tells.
+fn outage_told(
+    alloc: Global,
+    outage: Option<Outage>,
+    text: &[u8],
+) -> Result<Option<Outage>, AllocError>
+    ensures { IfOk result (λ told. told ≡ outage_told outage text.now) }
+{
+    match outage {
+        Some(outage) => Ok(Some(outage)),
+        None => match outage_of_text(alloc, text)? {
+            Some(time) => Ok(Some(outage_by(time))),
+            None => Ok(None),
+        },
     }
 }
 
@@ -302,7 +334,8 @@ fn answer_proof<R: Threads + Wait + Sync, W: Watch + Sync>(
     }
 }
 
-/// The greatest latency, and that where replicas have to answer, where that is asked for.
+/// The greatest latency, and what none is above through outages where the option or the text tells some; or, where that is
+/// asked for, the one where replicas have to answer, and then the text is not asked for outages.
 fn answer_latency<R: Threads + Wait + Sync, W: Watch + Sync>(
     rt: &R,
     alloc: Global,
@@ -319,7 +352,10 @@ fn answer_latency<R: Threads + Wait + Sync, W: Watch + Sync>(
 {
     match accept {
         Some(accept) => latency_accepted_answer(rt, alloc, accept, asked, text, options, watch),
-        None => answer_through(rt, alloc, with_ceiling, outage, asked, options, text, watch),
+        None => {
+            let outage = outage_told(alloc, outage, text)?;
+            answer_through(rt, alloc, with_ceiling, outage, asked, options, text, watch)
+        }
     }
 }
 
@@ -372,7 +408,7 @@ fn answer_told<R: Threads + Wait + Sync, W: Watch + Sync>(
     }
 }
 
-/// The greatest latencies of all targets, likewise.
+/// The greatest latencies of all targets, and what none is above through outages where the option or the text tells some.
 fn answer_survey<R: Threads + Wait + Sync, W: Watch + Sync>(
     rt: &R,
     alloc: Global,
@@ -386,6 +422,36 @@ fn answer_survey<R: Threads + Wait + Sync, W: Watch + Sync>(
 ) -> Result<Answer, Fault>
     requires { 0 < length watches.now }
     ensures { SaysUnlessMemory (survey_by outage format with_ceilings asked.now options.now) text.now (reply_of result) }
+{
+    let outage = outage_told(alloc, outage, text)?;
+    survey_through(
+        rt,
+        alloc,
+        format,
+        with_ceilings,
+        outage,
+        asked,
+        options,
+        text,
+        watches,
+    )
+}
+
+/// The greatest latencies of all targets, and what none is above through outages where these are asked for.
+fn survey_through<R: Threads + Wait + Sync, W: Watch + Sync>(
+    rt: &R,
+    alloc: Global,
+    format: Format,
+    with_ceilings: bool,
+    outage: Option<Outage>,
+    asked: &Asked,
+    options: &Options,
+    text: &[u8],
+    watches: &[W],
+) -> Result<Answer, Fault>
+    requires { 0 < length watches.now }
+    ensures { SaysUnlessMemory (survey_through_by outage format with_ceilings asked.now options.now) text.now
+        (reply_of result) }
 {
     match outage {
         Some(outage) => survey_through_answer(
@@ -633,7 +699,7 @@ fn answer_explain(
     }
 }
 
-/// The ceilings at all groups, or at the one that is named.
+/// The ceilings at all groups, or at the one that is named, and those through outages where the option or the text tells some.
 fn answer_ceilings<R: Threads + Sync, W: Sync>(
     rt: &R,
     alloc: Global,
@@ -647,9 +713,10 @@ fn answer_ceilings<R: Threads + Sync, W: Sync>(
     watches: &[W],
 ) -> Result<Answer, Fault>
     requires { 0 < length watches.now }
-    ensures { SaysUnlessMemory (CeilingsSay format outage asked.now unit (option_map string_bytes group.now)) text.now
+    ensures { SaysUnlessMemory (ceilings_by format outage asked.now unit (option_map string_bytes group.now)) text.now
         (reply_of result) }
 {
+    let outage = outage_told(alloc, outage, text)?;
     match group {
         Some(name) => {
             let name = Some(name.as_str());

@@ -5,7 +5,7 @@ ghost use Rattle.convoy_commands.specs.declared.limits.TheConstants.{LONGEST_CER
 ghost use Rattle.convoy_commands.specs.First.{FirstSays};
 ghost use Rattle.convoy_toml.specs.Reading.{as_written};
 ghost use Rattle.convoy_tasks.specs.Runs.{IsRun};
-ghost use Rattle.convoy_tasks.specs.Tasks.{analyse_by, certificate_says, latency_told_by, told_by};
+ghost use Rattle.convoy_tasks.specs.Tasks.{analyse_by, certificate_says, latency_by, told_by};
 ghost use Rattle.convoy_commands.specs.declared.telling.Telling.TheVariants.{Simulate, Timeline};
 ghost use Rattle.convoy_task_list.specs.declared.of_certificates.CertificateTask.TheVariants.{Check};
 
@@ -160,6 +160,9 @@ pub fn run_analyse<R: Threads + Wait + Sync, S: Source, K: Sink>(
 /// least LEAST ticks and at most MOST. Where the length of a tick is known, both lines go on with the
 /// same as times and their unit: that of the options, or else that in which the scenario tells D.
 ///
+/// Where the text tells outages by its key `outage`, a line below tells what no latency is above through them, by which a
+/// deadline is then judged, too (docs/FORMATS.md, "Latencies through outages").
+///
 /// Where the text gives the target a deadline a line below tells how that is kept, and so does the end: `Done::Fine` where
 /// no latency is above it, `Done::Beyond` where some schedule has one that is, and `Done::Open` where neither is known.
 ///
@@ -172,7 +175,7 @@ pub fn run_latency<R: Threads + Wait + Sync, S: Source, K: Sink>(
     sink: &mut K,
     options: &Options,
 ) -> Result<Done, Fault>
-    ensures { IsRun LONGEST_JOB (latency_told_by false as_written options.now) options.now.most_reads
+    ensures { IsRun LONGEST_JOB (latency_by None None false as_written options.now) options.now.most_reads
         S.reads K.writes source.old source.new sink.old sink.new result }
 {
     let task = Task::Search {

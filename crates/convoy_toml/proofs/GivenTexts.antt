@@ -17,7 +17,8 @@ use Rattle.convoy_toml.specs.declared.asked.Asked.{Asked}
 use Rattle.convoy_toml.specs.Around.{asked_around, span_of}
 use Rattle.convoy_toml.specs.Deadlines.{deadlines_of_written}
 use Rattle.convoy_toml.specs.Reading.{InputView, table_of_text, need_ranges, input_of_written, input_of_table, input_of_text_by, scenario_of_input, scenario_of_text_by, scenario_of_written}
-use Rattle.convoy_toml.specs.Shape.{Written, WrittenScenario, written_of_table}
+use Rattle.convoy_toml.specs.Shape.{Written, WrittenScenario}
+use Rattle.convoy_toml.specs.Slow.{written_of_table}
 use Rattle.convoy_toml.specs.TextLaws.{HasSpan, TextsHaveSpans}
 use Rattle.convoy_toml.specs.Times.{draft_of_written}
 

@@ -3,6 +3,7 @@ mod LinkRows
 mod ShareRows
 mod AgreementRows
 mod PlaceRows
+mod SlowRows
 pub mod KeyLemmas
 pub mod GivenTexts
 pub mod SaidTargets

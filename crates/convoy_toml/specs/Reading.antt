@@ -1,6 +1,6 @@
 -- The scenario of a TOML table, and of a text, with the schedule and the order of its ties that are given beside it.
-use Rattle.std.specs.Prelude.{ℕ, ℤ, Bool, if◌then◌else◌, List, [], Option, None, option_map, is_some, ok_or, Result, Ok, Err}
-use Rattle.std.specs.Result.{result_map_both}
+use Rattle.std.specs.Prelude.{ℕ, ℤ, Bool, if◌then◌else◌, List, [], Option, None, option_and_then, option_map, unwrap_or, is_some, ok_or, Result, Ok, Err}
+use Rattle.std.specs.Result.{result_map_both, result_ok}
 use Rattle.std.specs.Str.{is_utf8}
 use Rattle.toml.specs.Data.{Members}
 use Rattle.toml.specs.Parse.{parse_document}
@@ -17,7 +17,9 @@ use Rattle.convoy_lines.specs.Results.{◌>>=◌}
 use Rattle.convoy_toml.specs.Around.{asked_around}
 use Rattle.convoy_toml.specs.Deadlines.{deadlines_of_written}
 use Rattle.convoy_toml.specs.Outside.{LinkShare, shares_of_table}
-use Rattle.convoy_toml.specs.Shape.{Written, WrittenScenario, unit_of_table, written_of_table}
+use Rattle.convoy_toml.specs.Shape.{Written, WrittenScenario, outage_of_table, time_of_table, unit_of_table}
+use Rattle.convoy_toml.specs.Slow.{written_of_table}
+use Rattle.convoy_toml.specs.declared.written.WrittenTime.{WrittenTime}
 use Rattle.convoy_toml.specs.Times.{draft_of_written}
 use Rattle.convoy_toml.specs.Ways.{has_ranges}
 
@@ -99,6 +101,14 @@ shares_of_text text = of_reading (table_of_text text) where
   of_reading : Result Members ScenarioFault → List LinkShare
   of_reading (Ok table) = shares_of_table table
   of_reading (Err fault) = []
+
+-- how long the outages last in all through which latencies of a table are told as well, as it is written; none where the key is absent or at fault
+abbrev pub outage_in : Members → Option WrittenTime
+outage_in table = unwrap_or (result_ok (time_of_table table >>= λ time. outage_of_table time table)) None
+
+-- the same of a text; none where that is no table
+abbrev pub outage_of_text : List ℕ → Option WrittenTime
+outage_of_text text = option_and_then outage_in (result_ok (table_of_text text))
 
 -- what was read, with schedule and order as lists
 abbrev pub input_read : Result Input ScenarioFault → Result InputView ScenarioFault

@@ -4,14 +4,14 @@ use Rattle.std.specs.BTreeMap.{BTreeMap}
 use Rattle.std.specs.declared.alloc.Global.{Global}
 use Rattle.toml.specs.View.{table_view}
 use Rattle.toml.specs.declared.value.Value.{Value}
-use Rattle.std.specs.Prelude.{Vec, String, map, ℕ, nat_le, Bool, true, false, not, ◌&&◌, ◌||◌, if◌then◌else◌, ℤ, List, [], ◌∷◌, length, slice_index_or, find, codes, Option, Some, None, is_some, is_none, option_map, option_and_then, ok_or, unwrap_or, Result, Ok, Err}
+use Rattle.std.specs.Prelude.{Vec, String, map, ℕ, nat_le, Bool, true, false, not, ◌&&◌, ◌||◌, if◌then◌else◌, ℤ, pos, int_le, List, [], ◌∷◌, length, slice_index_or, find, codes, Option, Some, None, is_some, is_none, option_map, option_and_then, ok_or, unwrap_or, Result, Ok, Err}
 use Rattle.std.specs.List.{list_any, slice_get}
-use Rattle.std.specs.Option.{option_or}
+use Rattle.std.specs.Option.{option_map_or, option_or}
 use Rattle.std.specs.Str.{bytes_eq}
 use Rattle.toml.specs.Data.{Data, Items, no_items, item, Members, no_members, member, get_member, as_str, as_integer, as_bool, as_array, as_table}
 use Rattle.convoy_lines.specs.Results.{◌>>=◌}
 use Rattle.convoy_draft.specs.declared.fault.Key.{Key}
-use Rattle.convoy_draft.specs.declared.fault.Key.TheVariants.{Time, Tick, Delay, Groups, Places, Multicast, Name, From, To, At, Until, Within, Target, Message, Group, Link, Least, Most, Both, Stamps, Agree, Steps, Schedule, Order, Unknown}
+use Rattle.convoy_draft.specs.declared.fault.Key.TheVariants.{Time, Tick, Delay, Groups, Places, Multicast, Name, From, To, At, Until, Within, Target, Message, Group, Link, Least, Most, Both, Stamps, Agree, Steps, Outage, Schedule, Order, Unknown}
 use Rattle.convoy_draft.specs.declared.fault.ScenarioFault.{ScenarioFault}
 use Rattle.convoy_draft.specs.declared.fault.ScenarioFault.TheVariants.{Shape}
 use Rattle.convoy_draft.specs.declared.time.Time.{Time as AnyTime}
@@ -21,11 +21,12 @@ use Rattle.convoy_draft.specs.declared.duration.TimeUnit.{TimeUnit}
 use Rattle.convoy_draft.specs.Keys.{key_word, time_named}
 use Rattle.convoy_toml.specs.declared.target.TargetKey.{TargetKey}
 use Rattle.convoy_toml.specs.declared.target.TargetKey.TheVariants.{Named, Required, Optional}
+use Rattle.convoy_toml.specs.declared.written.WrittenRange.{WrittenRange}
 use Rattle.convoy_toml.specs.declared.written.WrittenTime.{WrittenTime}
 use Rattle.convoy_toml.specs.declared.written.WrittenTime.TheVariants.{Count, Lasting}
 use Rattle.convoy_toml.specs.Shares.{as_share, outside_word}
 
--- a message as it is written: its name, the group that sends it or the place of the client that does (none for a client of no named place), the groups that it goes to, the first time at which it may be issued, and the last where that is written, and its deadline where it has one
+-- a message as it is written: its name, the group that sends it or the place of the client that does (none for a client of no named place), the groups that it goes to, the first time at which it may be issued, and the last where that is written, its deadline where it has one, and how much longer than a link says its packets take from its sender where that is written
 pub record WrittenMessage : Type 0 where
   pub name : List ℕ
   pub sender : Option (List ℕ)
@@ -33,6 +34,7 @@ pub record WrittenMessage : Type 0 where
   pub at : WrittenTime
   pub until : Option WrittenTime
   pub within : Option WrittenTime
+  pub longer : Option WrittenRange
 
 -- where the links of a table lead: from the groups and places that send (none where the clients of no named place do) to these groups, and perhaps back as well
 pub record LinkEnds : Type 0 where
@@ -144,6 +146,20 @@ abbrev pub as_least : AnyTime → Data → Option WrittenTime
 as_least Ticks value = None
 as_least Real value = as_when Real value
 
+-- the least and the greatest time, where both are written; one alone is a fault of the other
+abbrev pub both_or_none : Option WrittenTime → Option WrittenTime → Result (Option WrittenRange) ScenarioFault
+both_or_none None None = Ok None
+both_or_none None (Some most) = Err (Shape Least)
+both_or_none (Some least) None = Err (Shape Most)
+both_or_none (Some least) (Some most) = Ok (Some (record { least = least; most = most }))
+
+-- how much longer than a link says the packets of a message take from its sender, where that is written
+abbrev pub longer_of_table : AnyTime → Members → Result (Option WrittenRange) ScenarioFault
+longer_of_table time table = do
+  least ← wish Least (as_when time) table
+  most ← wish Most (as_when time) table
+  both_or_none least most
+
 -- a message as it is written
 abbrev pub message_of_table : AnyTime → Members → Result WrittenMessage ScenarioFault
 message_of_table time table = do
@@ -153,8 +169,9 @@ message_of_table time table = do
   at ← need At (as_when time) table
   until ← wish Until (as_when time) table
   within ← wish Within (as_when time) table
-  _ ← need_only (Name ∷ From ∷ To ∷ At ∷ Until ∷ Within ∷ []) table
-  Ok (record { name = name; sender = sender; to = to; at = at; until = until; within = within })
+  longer ← longer_of_table time table
+  _ ← need_only (Name ∷ From ∷ To ∷ At ∷ Until ∷ Within ∷ Least ∷ Most ∷ []) table
+  Ok (record { name = name; sender = sender; to = to; at = at; until = until; within = within; longer = longer })
 
 -- the messages, unless one is at fault
 abbrev pub messages_of : AnyTime → List Members → Result (List WrittenMessage) ScenarioFault
@@ -351,14 +368,27 @@ pub record Written : Type 0 where
   pub schedule : Option (List ℤ)
   pub order : Option (List ℤ)
 
--- what is written in the table, which has no other key
-abbrev pub written_of_table : TargetKey → Members → Result Written ScenarioFault
-written_of_table key table = do
+-- a value is a number below 0
+abbrev pub is_below_zero : Data → Bool
+is_below_zero value = option_map_or (λ number. not (int_le (pos 0) number)) (as_integer value) false
+
+-- how long something lasts: a time that is none below 0
+abbrev pub as_long : AnyTime → Data → Option WrittenTime
+as_long time value = if is_below_zero value then None else as_when time value
+
+-- how long the outages last in all through which latencies are told as well, as it is written; none where the key is absent
+abbrev pub outage_of_table : AnyTime → Members → Result (Option WrittenTime) ScenarioFault
+outage_of_table time table = wish Outage (as_long time) table
+
+-- what is written in the table, which has no other key, with each message sent by who is written to send it
+abbrev pub shape_of_table : TargetKey → Members → Result Written ScenarioFault
+shape_of_table key table = do
   scenario ← scenario_of_table key table
   agreements ← agreements_of_table scenario.time table
   schedule ← wish_all Schedule as_integer table
   order ← wish_all Order as_integer table
-  _ ← need_only (Time ∷ Tick ∷ Delay ∷ Least ∷ Groups ∷ Places ∷ Multicast ∷ Target ∷ Link ∷ Group ∷ Schedule ∷ Order ∷ []) table
+  _ ← outage_of_table scenario.time table
+  _ ← need_only (Time ∷ Tick ∷ Delay ∷ Least ∷ Groups ∷ Places ∷ Multicast ∷ Target ∷ Link ∷ Group ∷ Outage ∷ Schedule ∷ Order ∷ []) table
   Ok (record { scenario = record scenario { agreements = agreements }; schedule = schedule; order = order })
 
 -- the unit in which a value tells a duration

@@ -196,7 +196,7 @@ fn agreement_at<'a>(agreements: &'a [Agreement], group: &Name) -> Option<&'a Agr
 }
 
 /// Two delays together, each of them within the limits of one.
-fn together(delay: i64, other: i64) -> i64
+pub(crate) fn together(delay: i64, other: i64) -> i64
     ensures { result ≡ together delay other }
 {
     i64::from(u32::from(delay_ticks(delay)) + u32::from(delay_ticks(other)))

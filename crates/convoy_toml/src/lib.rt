@@ -14,17 +14,16 @@ pub use links::{MOST_WRITTEN_LINKS, links_of_bundle};
 pub use outside::LinkShare;
 pub use placed::{Placed, ScenarioTable};
 pub use plain::PlainNumber;
-pub use read::{read_table, read_toml, read_toml_asked, scenario_of_written};
-pub use shape::{
-    scenario_of_table, setting_of_table, time_of_table, unit_of_table, written_of_table,
-};
+pub use read::{outage_of_text, read_table, read_toml, read_toml_asked, scenario_of_written};
+pub use shape::{scenario_of_table, setting_of_table, time_of_table, unit_of_table};
 pub use share::WHOLE_SHARE;
+pub use slow::{scenario_without_slow, written_of_table};
 pub use target::TargetKey;
 pub use times::{bundles_of, draft_of_written, tick_of};
 pub use ways::{Way, ways_without_link};
 pub use written::{
-    LinkEnds, WrittenAgreement, WrittenInput, WrittenLink, WrittenMulticast, WrittenScenario,
-    WrittenTarget, WrittenTime,
+    LinkEnds, WrittenAgreement, WrittenInput, WrittenLink, WrittenMulticast, WrittenRange,
+    WrittenScenario, WrittenTarget, WrittenTime,
 };
 
 mod agreements;
@@ -43,6 +42,7 @@ mod plain;
 mod read;
 mod shape;
 mod share;
+mod slow;
 mod target;
 pub mod text_laws;
 mod times;

@@ -24,7 +24,7 @@ pub fn links_of_bundles(alloc: Global, bundles: &[Bundle]) -> Result<Vec<DraftLi
 }
 
 /// Whether the tables write no more links than they may.
-fn are_few(bundles: &[Bundle]) -> bool
+pub(crate) fn are_few(bundles: &[Bundle]) -> bool
     ensures { result ≡ nat_le (sum_by count_of bundles.now) MOST_WRITTEN_LINKS }
 {
     let mut count: usize = 0;

@@ -2,7 +2,7 @@ use super::placed::ScenarioTable;
 use super::written::{
     WrittenAgreement, WrittenLink, WrittenMulticast, WrittenScenario, WrittenTime,
 };
-use convoy_scenario::{Key, Time};
+use convoy_scenario::{Key, Name, Time};
 
 /// A number of ticks that stands beside durations in a scenario text.
 #[derive(Clone, Copy, Drop)]
@@ -53,7 +53,10 @@ impl Sight {
         }
     }
 
-    fn see_links(&mut self, links: &[WrittenLink]) {
+    fn see_links(&mut self, links: &[WrittenLink], multicasts: &[WrittenMulticast]) {
+        // (the links from the own places of slow messages stand in no table of the text)
+        let own = links.iter().position(|link| some_send_by(multicasts, link));
+        let links = &links[..own.unwrap_or(links.len())];
         for (number, link) in links.iter().enumerate() {
             let table = ScenarioTable::Link(number);
             self.see(table, links.len(), Key::Least, Some(link.least));
@@ -71,6 +74,30 @@ impl Sight {
     }
 }
 
+/// Whether the link leads from the own place of one of the messages.
+fn some_send_by(multicasts: &[WrittenMulticast], link: &WrittenLink) -> bool {
+    match &link.ends.senders {
+        Some(senders) => senders
+            .iter()
+            .all(|sender| some_are_named(multicasts, sender)),
+        None => false,
+    }
+}
+
+/// Whether one of the messages is sent from a place of that name, which is its own.
+fn some_are_named(multicasts: &[WrittenMulticast], place: &Name) -> bool {
+    multicasts.iter().any(|multicast| {
+        multicast.name.is_same(place) && is_some_and_same(&multicast.sender, place)
+    })
+}
+
+fn is_some_and_same(sender: &Option<Name>, place: &Name) -> bool {
+    match sender {
+        Some(name) => name.is_same(place),
+        None => false,
+    }
+}
+
 /// The first plain number beside durations, in real time and where the length of a tick is written; None where there is
 /// none.
 pub fn plain_number(scenario: &WrittenScenario) -> Option<PlainNumber> {
@@ -84,7 +111,7 @@ pub fn plain_number(scenario: &WrittenScenario) -> Option<PlainNumber> {
     sight.see(ScenarioTable::Top, 1, Key::Delay, scenario.delay);
     sight.see(ScenarioTable::Top, 1, Key::Least, scenario.least);
     sight.see_multicasts(&scenario.multicasts);
-    sight.see_links(&scenario.links);
+    sight.see_links(&scenario.links, &scenario.multicasts);
     sight.see_agreements(&scenario.agreements);
     if sight.has_durations {
         sight.number

@@ -3,7 +3,7 @@ ghost use Rattle.std.specs.Result.{result_map_both};
 ghost use Rattle.toml.specs.View.{table_view};
 ghost use Rattle.convoy_draft.specs.declared.fault.ScenarioFault.TheVariants.{Memory};
 ghost use Rattle.convoy_scenario.specs.Memory.{IsUnlessMemory};
-ghost use Rattle.convoy_toml.specs.Reading.{deadlines_of_text, input_of_written, scenario_of_written, table_of_text, input_of_text, input_of_text_by, input_read, scenario_of_text, scenario_of_text_by, scenario_read, shares_of_text, unit_written};
+ghost use Rattle.convoy_toml.specs.Reading.{deadlines_of_text, input_of_written, scenario_of_written, table_of_text, input_of_text, input_of_text_by, input_read, outage_in, outage_of_text, scenario_of_text, scenario_of_text_by, scenario_read, shares_of_text, unit_written};
 ghost use Rattle.convoy_toml.specs.Deadlines.{deadlines_of_written};
 ghost use Rattle.convoy_toml.specs.Reading.{as_written};
 
@@ -14,12 +14,13 @@ use super::input::Input;
 use super::outside::{LinkShare, shares_of_table};
 use super::placed::Placed;
 use super::plain::plain_number;
-use super::shape::{unit_of_table, written_of_table};
+use super::shape::{outage_of_table, time_of_table, unit_of_table};
+use super::slow::written_of_table;
 use super::times::draft_of_written;
 use super::ways::has_ranges;
-use super::written::{WrittenInput, WrittenScenario};
+use super::written::{WrittenInput, WrittenScenario, WrittenTime};
 use convoy_scenario::{Scenario, ScenarioFault, TimeUnit};
-use std::alloc::Global;
+use std::alloc::{AllocError, Global};
 use toml::Table;
 
 /// Reads a scenario text, which is TOML (docs/FORMATS.md, "Scenario text").
@@ -79,6 +80,27 @@ fn read_toml_placed(alloc: Global, text: &[u8], asked: &Asked) -> Result<Input, 
     let shares = shares_of_table(alloc, &table)?;
     let written = written_of_table(alloc, &table, &asked.target)?;
     input_of_written(alloc, asked, unit, shares, written)
+}
+
+/// How long the outages last in all through which latencies of a scenario text are told as well, as its key `outage` says
+/// (docs/FORMATS.md, "Scenario text"); none where the key is absent, or the text is at fault there. Fails where memory runs
+/// out, and else never.
+pub fn outage_of_text(alloc: Global, text: &[u8]) -> Result<Option<WrittenTime>, AllocError>
+    ensures { IfOk result (λ outage. outage ≡ outage_of_text text.now) }
+{
+    match read_table(alloc, text) {
+        Ok(table) => Ok(outage_in(&table)),
+        Err(ScenarioFault::Memory) => Err(AllocError),
+        Err(_) => Ok(None),
+    }
+}
+
+/// The same of the table of a text.
+fn outage_in(table: &Table) -> Option<WrittenTime>
+    ensures { result ≡ outage_in (table_view table.now) }
+{
+    let time = time_of_table(table).ok()?;
+    outage_of_table(table, time).ok()?
 }
 
 /// What is given where this is written (docs/FORMATS.md, "How faults are found"), with the unit in which D is, and the

@@ -7,15 +7,15 @@ ghost use Rattle.toml.specs.View.{view, array_view, table_view};
 ghost use Rattle.convoy_draft.specs.Keys.{key_word};
 ghost use Rattle.convoy_scenario.specs.Memory.{IsUnlessMemory};
 ghost use Rattle.convoy_toml.specs.Shares.{outside_word};
-ghost use Rattle.convoy_toml.specs.Shape.{all_of, as_duration, as_when, as_tick, as_least, needs_delay, delay_of_table, need, need_all, wish, wish_all, names_in, as_names, as_both, both_of_table, ends_of_table, has_link_words, has_only, is_link_word, need_link_words, need_only, share_of_table, time_of_table, message_of_table, messages_of, link_of_table, links_of, links_of_table, places_of_table, written_target, target_of_table, scenario_of_table, setting_of_table, written_of_table, listed, listed_if_there, tables_listed, stamps_of_table, unit_in, unit_of_table};
+ghost use Rattle.convoy_toml.specs.Shape.{all_of, as_duration, as_when, as_long, is_below_zero, as_tick, as_least, needs_delay, delay_of_table, need, need_all, wish, wish_all, names_in, as_names, as_both, both_of_table, ends_of_table, has_link_words, has_only, is_link_word, need_link_words, need_only, share_of_table, time_of_table, message_of_table, messages_of, link_of_table, links_of, links_of_table, longer_of_table, both_or_none, places_of_table, written_target, target_of_table, scenario_of_table, setting_of_table, shape_of_table, listed, listed_if_there, tables_listed, outage_of_table, stamps_of_table, unit_in, unit_of_table};
 
 use super::group_tables::agreements_of_table;
 use super::placed::{Placed, ScenarioTable, in_table};
 use super::share::{OUTSIDE, share_told};
 use super::target::{TargetKey, first_target};
 use super::written::{
-    LinkEnds, WrittenInput, WrittenLink, WrittenMulticast, WrittenScenario, WrittenTarget,
-    WrittenTime,
+    LinkEnds, WrittenInput, WrittenLink, WrittenMulticast, WrittenRange, WrittenScenario,
+    WrittenTarget, WrittenTime,
 };
 use convoy_scenario::{Duration, Key, Name, ScenarioFault, Time, TimeUnit};
 use std::alloc::Global;
@@ -306,6 +306,30 @@ pub(crate) fn need_only(table: &Table, keys: &[Key]) -> Result<(), ScenarioFault
     }
 }
 
+/// The least and the greatest time, where both are written; one alone is a fault of the other.
+fn both_or_none(
+    least: Option<WrittenTime>,
+    most: Option<WrittenTime>,
+) -> Result<Option<WrittenRange>, ScenarioFault>
+    ensures { result ≡ both_or_none least most }
+{
+    match (least, most) {
+        (None, None) => Ok(None),
+        (None, Some(_)) => Err(ScenarioFault::Shape(Key::Least)),
+        (Some(_), None) => Err(ScenarioFault::Shape(Key::Most)),
+        (Some(least), Some(most)) => Ok(Some(WrittenRange { least, most })),
+    }
+}
+
+/// How much longer than a link says the packets of a message take from its sender, where that is written.
+fn longer_of_table(table: &Table, time: Time) -> Result<Option<WrittenRange>, ScenarioFault>
+    ensures { result ≡ longer_of_table time (table_view table.now) }
+{
+    let least = when_written(table, Key::Least, time)?;
+    let most = when_written(table, Key::Most, time)?;
+    both_or_none(least, most)
+}
+
 fn multicast_of_table(
     alloc: Global,
     table: &Table,
@@ -320,6 +344,7 @@ fn multicast_of_table(
     let at = when(table, Key::At, time)?;
     let until = when_written(table, Key::Until, time)?;
     let within = when_written(table, Key::Within, time)?;
+    let longer = longer_of_table(table, time)?;
     need_only(
         table,
         &[
@@ -329,6 +354,8 @@ fn multicast_of_table(
             Key::At,
             Key::Until,
             Key::Within,
+            Key::Least,
+            Key::Most,
         ],
     )?;
     Ok(WrittenMulticast {
@@ -338,6 +365,7 @@ fn multicast_of_table(
         at,
         until,
         within,
+        longer,
     })
 }
 
@@ -587,20 +615,56 @@ fn target_of_table(
     }
 }
 
-/// What is written in a table, in which the target has to be written or not; or the first key that is at
-/// fault (docs/FORMATS.md, "Scenario text").
-pub fn written_of_table(
+/// How long the outages last in all through which latencies are told as well, where the key is there.
+pub(crate) fn outage_of_table(
+    table: &Table,
+    time: Time,
+) -> Result<Option<WrittenTime>, ScenarioFault>
+    ensures { result ≡ outage_of_table time (table_view table.now) }
+{
+    let Some(value) = value_at(table, Key::Outage) else {
+        return Ok(None);
+    };
+    let long = time_lasting(value, time).ok_or(ScenarioFault::Shape(Key::Outage))?;
+    Ok(Some(long))
+}
+
+/// How long something lasts: a time that is none below 0.
+fn time_lasting(value: &Value, time: Time) -> Option<WrittenTime>
+    ensures { result ≡ as_long time (view value.now) }
+{
+    if is_below_zero(value) {
+        None
+    } else {
+        time_written(value, time)
+    }
+}
+
+/// Whether it is a number below 0.
+fn is_below_zero(value: &Value) -> bool
+    ensures { result ≡ is_below_zero (view value.now) }
+{
+    match value.as_integer() {
+        Some(number) => number < 0,
+        None => false,
+    }
+}
+
+/// What is written in a table, in which the target has to be written or not, with each message sent by who is written to
+/// send it; or the first key that is at fault (docs/FORMATS.md, "Scenario text").
+pub(crate) fn shape_of_table(
     alloc: Global,
     table: &Table,
     target: &TargetKey,
 ) -> Result<WrittenInput, Placed>
     ensures { IsUnlessMemory ScenarioFault.Memory
-        (written_of_table target.now (table_view table.now)) result }
+        (shape_of_table target.now (table_view table.now)) result }
 {
     let mut scenario = scenario_of_table(alloc, table, target)?;
     scenario.agreements = agreements_of_table(alloc, table, scenario.time)?;
     let schedule = integers(alloc, table, Key::Schedule)?;
     let order = integers(alloc, table, Key::Order)?;
+    outage_of_table(table, scenario.time)?;
     need_only(
         table,
         &[
@@ -614,6 +678,7 @@ pub fn written_of_table(
             Key::Target,
             Key::Link,
             Key::Group,
+            Key::Outage,
             Key::Schedule,
             Key::Order,
         ],

@@ -175,7 +175,7 @@ fn some_travel(multicasts: &[DraftMulticast], way: &Way) -> bool
 }
 
 /// Whether one of the links leads that way.
-fn some_lead(links: &[DraftLink], way: &Way) -> bool
+pub(crate) fn some_lead(links: &[DraftLink], way: &Way) -> bool
     ensures { result ≡ list_any (leads_along way.now) links.now }
 {
     links.iter().any(|link| way.is_led_by(link))
@@ -193,7 +193,7 @@ fn is_one_of(sender: &Option<Name>, groups: &[Name]) -> bool
 
 impl Way {
     /// Whether the way leads to another place than its sender.
-    fn leads_elsewhere(&self) -> bool
+    pub(crate) fn leads_elsewhere(&self) -> bool
         ensures { result ≡ not (is_named_alike self.now.sender (Some self.now.to)) }
     {
         match &self.sender {

@@ -11,6 +11,13 @@ pub enum WrittenTime {
     Lasting(Duration),
 }
 
+/// A least and a greatest time as they are written, be they a range or not.
+#[derive(Clone, Copy)]
+pub struct WrittenRange {
+    pub least: WrittenTime,
+    pub most: WrittenTime,
+}
+
 /// A message as it is written, with the names of groups in place of their numbers.
 #[derive(Drop)]
 pub struct WrittenMulticast {
@@ -25,12 +32,14 @@ pub struct WrittenMulticast {
     pub until: Option<WrittenTime>,
     /// The most that its latency may be, where it has a deadline.
     pub within: Option<WrittenTime>,
+    /// How much longer than a link says its packets take from its sender, where that is written.
+    pub longer: Option<WrittenRange>,
 }
 
 impl Model for WrittenMulticast {
     ghost Value = { WrittenMessage };
 
-    ghost view = { λ m. record { name = m.name; sender = m.sender; to = m.to.items; at = m.at; until = m.until; within = m.within } };
+    ghost view = { λ m. record { name = m.name; sender = m.sender; to = m.to.items; at = m.at; until = m.until; within = m.within; longer = m.longer } };
 }
 
 /// Where the links of a table lead.

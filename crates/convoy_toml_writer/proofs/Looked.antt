@@ -4,7 +4,7 @@ use Rattle.std.specs.List.{list_any}
 use Rattle.std.specs.Str.{bytes_eq}
 use Rattle.toml.specs.Data.{Data, table, Members, no_members, member, get_member}
 use Rattle.convoy_draft.specs.declared.fault.Key.{Key}
-use Rattle.convoy_draft.specs.declared.fault.Key.TheVariants.{Time, Tick, Delay, Least, Groups, Places, Multicast, Target, Link, Group, Schedule, Order}
+use Rattle.convoy_draft.specs.declared.fault.Key.TheVariants.{Time, Tick, Delay, Least, Groups, Places, Multicast, Target, Link, Group, Outage, Schedule, Order}
 use Rattle.convoy_draft.specs.Keys.{key_word}
 use Rattle.convoy_toml.specs.Shape.{has_only}
 use Rattle.convoy_toml_writer.proofs.Document.{with_member, some_tables, Head, whole_table}
@@ -113,8 +113,13 @@ module _ (head : Head) (links messages : List Members) (target : Members) where
       past (codes "group") (codes "least") head.least with_links (λ d. refl) ∙ past (codes "group") (codes "link") (some_tables links) with_messages (λ d. refl) ∙ past (codes "group") (codes "multicast") (some_tables messages) ordered (λ d. refl)
       ∙ past (codes "group") (codes "order") head.order placed (λ d. refl) ∙ past (codes "group") (codes "places") head.places scheduled (λ d. refl) ∙ past (codes "group") (codes "tick") head.tick last_table (λ d. refl) ∙ past (codes "group") (codes "time") head.time no_members (λ d. refl)
 
+  pub outage_found : get_member (codes "outage") whole ≡ None
+  outage_found =
+      past (codes "outage") (codes "least") head.least with_links (λ d. refl) ∙ past (codes "outage") (codes "link") (some_tables links) with_messages (λ d. refl) ∙ past (codes "outage") (codes "multicast") (some_tables messages) ordered (λ d. refl)
+      ∙ past (codes "outage") (codes "order") head.order placed (λ d. refl) ∙ past (codes "outage") (codes "places") head.places scheduled (λ d. refl) ∙ past (codes "outage") (codes "tick") head.tick last_table (λ d. refl) ∙ past (codes "outage") (codes "time") head.time no_members (λ d. refl)
+
   abbrev known : List Key
-  known = Time ∷ Tick ∷ Delay ∷ Least ∷ Groups ∷ Places ∷ Multicast ∷ Target ∷ Link ∷ Group ∷ Schedule ∷ Order ∷ []
+  known = Time ∷ Tick ∷ Delay ∷ Least ∷ Groups ∷ Places ∷ Multicast ∷ Target ∷ Link ∷ Group ∷ Outage ∷ Schedule ∷ Order ∷ []
 
   pub only_known : has_only known whole ≡ true
   only_known =

@@ -1,5 +1,6 @@
 -- What is written in the document's table.
 use Rattle.std.proofs.Common.{◌≡◌, ℕ, ◌+◌, ◌≤◌, Bool, true, false, if◌then◌else◌, List, [], ◌∷◌, map, codes, pos, ℤ, Option, Some, None, option_map, Ok, refl, sym, ap, ◌∙◌, IfSome, inl, inr}
+use Rattle.std.specs.List.{list_any}
 use Rattle.std.specs.Option.{unwrap_or}
 use Rattle.std.proofs.lemmas.Bool.{cases_Bool, le-leb}
 use Rattle.std.proofs.lemmas.List.{map-id}
@@ -21,11 +22,12 @@ use Rattle.convoy_packets.specs.OrderLists.{is_no_order, ranks_of}
 use Rattle.convoy_toml.specs.declared.target.TargetKey.TheVariants.{Required}
 use Rattle.convoy_toml.specs.declared.written.WrittenTime.{WrittenTime}
 use Rattle.convoy_toml.specs.declared.written.WrittenTime.TheVariants.{Count}
-use Rattle.convoy_toml.specs.Shape.{all_of, need, need_all, wish, wish_all, has_only, time_of_table, as_time, as_tick, as_when, delay_of_table, needs_delay, as_least, LinkEnds, WrittenMessage, WrittenLink, WrittenScenario, WrittenTarget, message_of_table, messages_of, link_of_table, links_of, places_of_table, written_target, written_of_table}
+use Rattle.convoy_toml.specs.Shape.{all_of, need, need_all, wish, wish_all, has_only, time_of_table, as_time, as_tick, as_when, delay_of_table, needs_delay, as_least, LinkEnds, WrittenMessage, WrittenLink, WrittenScenario, WrittenTarget, message_of_table, messages_of, link_of_table, links_of, places_of_table, written_target}
+use Rattle.convoy_toml.specs.Slow.{is_slow, written_of_table}
 use Rattle.convoy_toml_writer.specs.WrittenTextLaws.{ranks_for}
 use Rattle.convoy_toml_writer.proofs.Document.{number, names_data, stamps_data, until_data, some_tables, time_data, least_data, tick_data, order_data, places_data, head_of, link_row, message_row, link_table, message_table, target_table, document_table}
 use Rattle.convoy_toml_writer.proofs.Durations.{duration_text}
-use Rattle.convoy_toml_writer.proofs.Looked.{delay_found, least_found, groups_found, places_found, time_found, tick_found, order_found, schedule_found, target_found, messages_found, links_found, group_found, only_known}
+use Rattle.convoy_toml_writer.proofs.Looked.{delay_found, least_found, groups_found, places_found, time_found, tick_found, order_found, schedule_found, target_found, messages_found, links_found, group_found, outage_found, only_known}
 
 -- ---- one key
 
@@ -71,6 +73,7 @@ written_message scenario message = record {
   at = Count (pos message.at);
   until = written_until message;
   within = None;
+  longer = None;
 }
 
 -- where one link leads
@@ -98,6 +101,11 @@ message_shaped time scenario message = by_sender (sender_name scenario message.s
 messages_shaped : (time : AnyTime) (scenario : Scenario) (messages : List Message) → messages_of time (map (message_table scenario) messages) ≡ Ok (map (written_message scenario) messages)
 messages_shaped time scenario [] = refl
 messages_shaped time scenario (m ∷ ms) = rw (message_shaped time scenario m, messages_shaped time scenario ms) refl
+
+-- none has a range of its own
+none_slow : (scenario : Scenario) (messages : List Message) → list_any is_slow (map (written_message scenario) messages) ≡ false
+none_slow scenario [] = refl
+none_slow scenario (m ∷ ms) = none_slow scenario ms
 
 link_shaped : (time : AnyTime) (scenario : Scenario) (link : ScenarioLink) → link_of_table time (link_table scenario link) ≡ Ok (written_link scenario link)
 unfolding link_of_table
@@ -190,12 +198,12 @@ in_steps : (rows : Members) (scenario : WrittenScenario) (message_rows : List Me
     → time_of_table rows ≡ Ok scenario.time → wish Tick (as_tick scenario.time) rows ≡ Ok scenario.tick → delay_of_table scenario.time rows ≡ Ok scenario.delay → wish Least (as_least scenario.time) rows ≡ Ok scenario.least → need_all Groups as_str rows ≡ Ok scenario.groups → places_of_table rows ≡ Ok scenario.places
     → need_all Multicast as_table rows ≡ Ok message_rows → messages_of scenario.time message_rows ≡ Ok scenario.messages → written_target rows ≡ Ok target
     → wish_all Link as_table rows ≡ Ok rows_of_links → links_of scenario.time (unwrap_or rows_of_links []) ≡ Ok scenario.links
-    → get_member (codes "group") rows ≡ None
-    → wish_all Schedule as_integer rows ≡ Ok schedule → wish_all Order as_integer rows ≡ Ok order → has_only (Time ∷ Tick ∷ Delay ∷ Least ∷ Groups ∷ Places ∷ Multicast ∷ Target ∷ Link ∷ key.Group ∷ Schedule ∷ Order ∷ []) rows ≡ true
-    → target.message ≡ scenario.target_message → target.group ≡ scenario.target_group
+    → get_member (codes "group") rows ≡ None → get_member (codes "outage") rows ≡ None
+    → wish_all Schedule as_integer rows ≡ Ok schedule → wish_all Order as_integer rows ≡ Ok order → has_only (Time ∷ Tick ∷ Delay ∷ Least ∷ Groups ∷ Places ∷ Multicast ∷ Target ∷ Link ∷ key.Group ∷ key.Outage ∷ Schedule ∷ Order ∷ []) rows ≡ true
+    → target.message ≡ scenario.target_message → target.group ≡ scenario.target_group → list_any is_slow scenario.messages ≡ false
     → written_of_table Required rows ≡ Ok (record { scenario = record scenario { agreements = [] }; schedule = schedule; order = order })
-in_steps rows scenario message_rows target schedule order rows_of_links time tick delay least groups places tables_there messages target_there links_there links no_groups scheduled ordered known named at_group =
-    rw (time, tick, delay, least, groups, places, tables_there, messages, target_there, links_there, links, no_groups, scheduled, ordered, known, named, at_group) refl
+in_steps rows scenario message_rows target schedule order rows_of_links time tick delay least groups places tables_there messages target_there links_there links no_groups no_outage scheduled ordered known named at_group quick =
+    rw (time, tick, delay, least, groups, places, tables_there, messages, target_there, links_there, links, no_groups, scheduled, ordered, no_outage, known, named, at_group, quick) refl
 
 -- what is written in the document's table
 pub document_shaped : (scenario : Scenario) (schedule : ScenarioSchedule) (first_message : Message) (others : List Message) → scenario.multicasts ≡ first_message ∷ others → IfSome scenario.tick (IsReadable scenario.time)
@@ -223,9 +231,10 @@ document_shaped scenario schedule first_message others some tick =
     links_there
     (ap (links_of scenario.time) all_links ∙ links_shaped scenario.time scenario scenario.links)
     (group_found head links messages target)
+    (outage_found head links messages target)
     (wish_all_found Schedule as_integer rows _ _ (schedule_found head links messages target) (all_given as_integer number pos schedule.delays (λ n. refl)))
     (order_shaped scenario schedule.order rows (order_found head links messages target))
-    (only_known head links messages target) refl refl
+    (only_known head links messages target) refl refl (none_slow scenario scenario.multicasts)
   where
     need_target : (rows target : Members) → get_member (codes "target") rows ≡ Some (table target) → target ≡ target_table scenario → written_target rows ≡ Ok (record { message = (message_at scenario scenario.target_message).name; group = group_name_at scenario scenario.target_group })
     need_target rows target e same = rw (e, same) refl

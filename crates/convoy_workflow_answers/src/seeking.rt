@@ -1,9 +1,9 @@
 //! The greatest time of a workflow.
 
-ghost use Rattle.std.specs.Prelude.{◌≡◌, ◌⊎◌, ◌*◌, ◌<◌, length, IfOk};
-ghost use Rattle.convoy_scenario.specs.Scenario.{message_at};
+ghost use Rattle.std.specs.Prelude.{◌≡◌, ◌*◌, ◌<◌, length, IfOk, IsTrue};
 ghost use Rattle.convoy_packets.specs.Assignment.{IsAssignment};
 ghost use Rattle.convoy_causes.specs.Causes.{AreCauses, IsUpperOfCaused};
+ghost use Rattle.convoy_causes.specs.CauseWindows.{has_room_from};
 ghost use Rattle.convoy_workflow_answers.specs.SoughtTimes.{IsSought, found_between};
 
 use super::found::Found;
@@ -28,7 +28,7 @@ pub(crate) struct Sought {
     pub within: Vec<u32>,
 }
 
-/// What is found of the greatest time of an instance from the issue of a message, which is the target or does not wait,
+/// What is found of the greatest time of an instance from the issue of a message, for which there is room,
 /// to the delivery of the target, where messages follow their causes (docs/PROTOCOL.md, "Messages that follow others"):
 /// late runs are sought by so many simulations at most, after a few where these are more. Fails where memory runs out,
 /// and else never.
@@ -41,7 +41,7 @@ pub(crate) fn greatest_time(
 ) -> Result<Sought, AllocError>
     requires causes { AreCauses instance.now causes.now }
     requires origin { origin < length instance.now.multicasts }
-    requires known { (origin ≡ instance.now.target_message) ⊎ ((message_at instance.now origin).longest_wait ≡ 0) }
+    requires room { IsTrue (has_room_from instance.now origin) }
     ensures { IfOk result (IsSought (record { scenario = instance.now; causes = causes.now; origin = origin })) }
 {
     let first = time_within(alloc, instance, causes, origin, steps.min(FIRST_STEPS))?;
@@ -61,7 +61,7 @@ fn time_within(
 ) -> Result<Sought, AllocError>
     requires causes { AreCauses instance.now causes.now }
     requires origin { origin < length instance.now.multicasts }
-    requires known { (origin ≡ instance.now.target_message) ⊎ ((message_at instance.now origin).longest_wait ≡ 0) }
+    requires room { IsTrue (has_room_from instance.now origin) }
     ensures { IfOk result (IsSought (record { scenario = instance.now; causes = causes.now; origin = origin })) }
 {
     met_upper_is_greatest();
@@ -109,7 +109,7 @@ fn known_closing(
 ) -> Result<Closing, AllocError>
     requires causes { AreCauses instance.now causes.now }
     requires origin { origin < length instance.now.multicasts }
-    requires known { (origin ≡ instance.now.target_message) ⊎ ((message_at instance.now origin).longest_wait ≡ 0) }
+    requires room { IsTrue (has_room_from instance.now origin) }
     ensures { IfOk result (λ closing. IsUpperOfCaused instance.now causes.now origin closing.most) }
 {
     match least_closing(alloc, instance, causes, origin, from)? {

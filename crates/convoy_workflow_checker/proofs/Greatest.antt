@@ -11,7 +11,7 @@ pub valid_is_greatest : ClosedByCauses → MetUpperIsGreatest → ValidWorkflowI
 valid_is_greatest closed met certificate lawful valid =
     met certificate.run.scenario certificate.causes.items certificate.origin certificate.run.latency
     (certificate.run.schedule, valid.caused, valid.time)
-    (closed certificate.run.scenario certificate.causes.items certificate.origin certificate.within.items certificate.run.latency lawful.scenario valid.causes valid.origin
+    (closed certificate.run.scenario certificate.causes.items certificate.origin certificate.within.items certificate.run.latency lawful.scenario valid.causes valid.known
     valid.closed)
 
 pub greatest_if_valid : ValidWorkflowIsGreatest → (certificate : WorkflowCertificate) (result : Result (Unit {0}) WorkflowRefused) → IsCertificate certificate.run

@@ -1,4 +1,5 @@
 mod Greatest
+mod Origins
 mod InTurn
 mod Plain
 mod LineTexts

@@ -47,6 +47,7 @@ key_plain keys.Both = refl
 key_plain keys.Stamps = refl
 key_plain keys.Agree = refl
 key_plain keys.Steps = refl
+key_plain keys.Outage = refl
 key_plain keys.Schedule = refl
 key_plain keys.Order = refl
 key_plain keys.Unknown = refl

@@ -7,7 +7,7 @@ use Rattle.convoy_workflow_certificate.specs.declared.workflow_text_fault.Workfl
 use Rattle.convoy_workflow_certificate.specs.declared.workflow_text_fault.WorkflowTextFault.{WorkflowTextFault}
 use Rattle.convoy_workflow_certificate.specs.declared.workflow_text_fault.WorkflowTextFault.TheVariants as texts
 use Rattle.convoy_workflow_checker.specs.declared.workflow_refusal.WorkflowRefusal.{WorkflowRefusal}
-use Rattle.convoy_workflow_checker.specs.declared.workflow_refusal.WorkflowRefusal.TheVariants.{Text, Check, NotDrawn}
+use Rattle.convoy_workflow_checker.specs.declared.workflow_refusal.WorkflowRefusal.TheVariants.{Text, Check}
 use Rattle.convoy_workflow_checker.specs.declared.workflow_refused.WorkflowRefused.{WorkflowRefused}
 use Rattle.convoy_workflow_checker.specs.declared.workflow_refused.WorkflowRefused.TheVariants as checks
 
@@ -36,12 +36,7 @@ row_of_check (checks.Time simulated) = (23, codes "simulated " ++ decimal simula
 row_of_check checks.Open = (95, codes "not closed")
 row_of_check checks.Memory = memory_row
 
--- where no image is drawn
-abbrev pub not_drawn_row : ℕ × List ℕ
-not_drawn_row = (96, codes "not drawn")
-
 -- of a refusal
 abbrev pub row_of_refusal : WorkflowRefusal → ℕ × List ℕ
 row_of_refusal (Text fault) = row_of_text fault
 row_of_refusal (Check refused) = row_of_check refused
-row_of_refusal NotDrawn = not_drawn_row

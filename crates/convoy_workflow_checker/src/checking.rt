@@ -1,8 +1,7 @@
-ghost use Rattle.std.specs.Prelude.{◌≡◌, ◌↔◌, ◌⊎◌, ◌<◌, [], length, Ok, IfOk, IsTrue};
+ghost use Rattle.std.specs.Prelude.{◌≡◌, ◌↔◌, ◌<◌, [], length, Ok, IfOk, IsTrue};
 ghost use Rattle.convoy_scenario.specs.Memory.{IsUnlessMemory};
-ghost use Rattle.convoy_scenario.specs.Scenario.{message_at};
 ghost use Rattle.convoy_causes.specs.Causes.{AreCauses, IsCaused, time_from};
-ghost use Rattle.convoy_causes.specs.CauseWindows.{closes_by};
+ghost use Rattle.convoy_causes.specs.CauseWindows.{closes_by, has_room_from};
 ghost use Rattle.convoy_workflow_certificate.specs.WorkflowTexts.{workflow_certificate_text};
 ghost use Rattle.convoy_workflow_checker.specs.declared.workflow_refused.WorkflowRefused.TheVariants.{Memory};
 ghost use Rattle.convoy_workflow_checker.specs.WorkflowCheckLaws.{IsGreatestOfWorkflow};
@@ -12,10 +11,10 @@ use super::causes::{first_not_followed, first_unknown};
 use super::workflow_check_laws::valid_workflow_is_greatest;
 use super::workflow_refusal::WorkflowRefusal;
 use super::workflow_refused::WorkflowRefused;
-use convoy_causes::{CausedRun, closes_by};
+use convoy_causes::{CausedRun, closes_by, may_be_origin};
 use convoy_scenario::Scenario;
 use convoy_workflow_certificate::{WorkflowCertificate, read_workflow_certificate};
-use std::alloc::Global;
+use std::alloc::{AllocError, Global};
 
 /// Checks a certificate of a workflow: then some run in which messages follow their causes takes the time that it states,
 /// and none takes longer, whoever made it (docs/FORMATS.md, "Certificates of workflows").
@@ -69,7 +68,7 @@ fn check_parts(alloc: Global, certificate: &WorkflowCertificate) -> Result<(), W
     if let Some(place) = first_unknown(certificate.run.scenario(), &certificate.causes) {
         return Err(WorkflowRefused::Cause(place));
     }
-    if !is_known(certificate.run.scenario(), certificate.origin) {
+    if !is_known(certificate.run.scenario(), certificate.origin)? {
         return Err(WorkflowRefused::Origin);
     }
     match check_run(alloc, certificate) {
@@ -85,21 +84,12 @@ fn is_bare(certificate: &WorkflowCertificate) -> bool
     certificate.run.nodes().is_empty()
 }
 
-/// Whether there is a message of that number, and the tick of its issue is known: it is the target, or does not wait.
-fn is_known(scenario: &Scenario, origin: usize) -> bool
-    ensures { IsTrue result ↔ ((origin < length scenario.now.multicasts)
-        × ((origin ≡ scenario.now.target_message) ⊎ ((message_at scenario.now origin).longest_wait ≡ 0))) }
+/// Whether there is a message of that number, and room to know its issue.
+fn is_known(scenario: &Scenario, origin: usize) -> Result<bool, AllocError>
+    ensures { IfOk result (λ known. IsTrue known
+        ↔ ((origin < length scenario.now.multicasts) × IsTrue (has_room_from scenario.now origin))) }
 {
-    origin < scenario.message_count() && has_known_issue(scenario, origin)
-}
-
-/// Whether a message is the target, or does not wait.
-fn has_known_issue(scenario: &Scenario, origin: usize) -> bool
-    requires { origin < length scenario.now.multicasts }
-    ensures { IsTrue result
-        ↔ ((origin ≡ scenario.now.target_message) ⊎ ((message_at scenario.now origin).longest_wait ≡ 0)) }
-{
-    origin == scenario.target_message() || scenario.longest_wait(origin) == 0
+    may_be_origin(scenario, origin)
 }
 
 /// Checks the run of a certificate: in it messages follow their causes, and it takes the time that is stated.

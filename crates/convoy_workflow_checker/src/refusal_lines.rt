@@ -4,7 +4,7 @@ ghost use Rattle.std.specs.Prelude.{◌≡◌, ℕ, ◌<◌, ◌^◌, IfOk, stri
 ghost use Rattle.convoy_scenario_lines.specs.declared.line_fault.Expected.{Expected};
 ghost use Rattle.convoy_certificate.specs.declared.text_fault.TextFault.TheVariants.{Line};
 ghost use Rattle.convoy_commands.specs.Refusals.{refused_line, row_of_text as row_of_fault};
-ghost use Rattle.convoy_workflow_checker.specs.RefusalLines.{not_drawn_row, row_of_check, row_of_refusal, row_of_text, workflow_line_word};
+ghost use Rattle.convoy_workflow_checker.specs.RefusalLines.{row_of_check, row_of_refusal, row_of_text, workflow_line_word};
 
 use super::workflow_refusal::WorkflowRefusal;
 use super::workflow_refused::WorkflowRefused;
@@ -21,15 +21,7 @@ pub fn workflow_refusal_line(alloc: Global, refusal: WorkflowRefusal) -> Result<
     match refusal {
         WorkflowRefusal::Text(fault) => line_of_text(alloc, fault),
         WorkflowRefusal::Check(refused) => line_of_check(alloc, refused),
-        WorkflowRefusal::NotDrawn => not_drawn_line(alloc),
     }
-}
-
-/// The line that tells that no image is drawn.
-fn not_drawn_line(alloc: Global) -> Result<String, AllocError>
-    ensures { IfOk result (λ line. string_bytes line ≡ refused_line not_drawn_row) }
-{
-    String::from_str(alloc, "refused 96 not drawn\n")
 }
 
 /// The line of a fault of the text.

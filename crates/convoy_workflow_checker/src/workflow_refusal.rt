@@ -8,18 +8,4 @@ pub enum WorkflowRefusal {
     Text(WorkflowTextFault),
     /// It is that of a certificate, which is not valid.
     Check(WorkflowRefused),
-    /// It is that of a valid certificate, of which no image is drawn: an image tells how late the target is from its own
-    /// issue, and there time counts from that of another message.
-    NotDrawn,
-}
-
-impl WorkflowRefusal {
-    /// Whether it tells that memory ran out.
-    pub fn is_memory(self) -> bool {
-        matches!(
-            self,
-            WorkflowRefusal::Text(WorkflowTextFault::Memory)
-                | WorkflowRefusal::Check(WorkflowRefused::Memory)
-        )
-    }
 }

@@ -14,8 +14,9 @@ pub enum WorkflowRefused {
     /// The cause of that number names a message that is not there, or a group to which what it follows does not go.
     #[error("cause {0} is none of the scenario")]
     Cause(usize),
-    /// Time is counted from no message of the scenario, or from one that may wait and is not the target.
-    #[error("time is counted from no known issue")]
+    /// Time is counted from no message of the scenario, or from one for whose issue there is no room
+    /// ([`may_be_origin`](convoy_causes::may_be_origin)).
+    #[error("time is counted from no issue that may be known")]
     Origin,
     /// In the run the message of the cause of that number does not follow by it.
     #[error("cause {0} is not followed in the run")]

@@ -12,7 +12,7 @@ use Rattle.convoy_commands.specs.declared.asking.Asking.TheVariants.{Check, Expl
 use Rattle.convoy_commands.specs.declared.done.Done.{Done}
 use Rattle.convoy_commands.specs.declared.done.Done.TheVariants as ends
 use Rattle.convoy_commands.specs.declared.fault.Fault.TheVariants.{Memory}
-use Rattle.convoy_commands.specs.Draws.{IsImageOf}
+use Rattle.convoy_commands.specs.Draws.{IsImageFrom}
 use Rattle.convoy_commands.specs.ReplyLines.{accepted_line}
 use Rattle.convoy_commands.specs.Refusals.{refused_line}
 use Rattle.convoy_commands.specs.Replies.{Reply, Rule}
@@ -25,17 +25,11 @@ pub record IsTextOfValid (text : List ℕ) (certificate : WorkflowCertificate) :
   pub valid : IsValidWorkflow certificate
   pub greatest : IsGreatestOfWorkflow certificate
 
--- this may be asked of it: an image, which tells how late the target is from its own issue, only where time counts from that
-abbrev pub MayBeAsked : Asking → WorkflowCertificate → Type 0
-MayBeAsked Check certificate = Unit {0}
-MayBeAsked (Explain asked) certificate = Unit {0}
-MayBeAsked (Draw asked) certificate = certificate.origin ≡ certificate.run.scenario.target_message
-
--- what is written of it: the yes, why its time is what it is, or an image of its run
+-- what is written of it: the yes, why its time is what it is, or an image of its run, which tells that time from the issue of its origin
 abbrev pub IsWorkflowAsked : Asking → WorkflowCertificate → List ℕ → Type 0
 IsWorkflowAsked Check certificate out = out ≡ accepted_line certificate.run.latency
 IsWorkflowAsked (Explain asked) certificate out = out ≡ workflow_explained asked certificate
-IsWorkflowAsked (Draw asked) certificate out = MayBeAsked (Draw asked) certificate × IsImageOf asked certificate.run out
+IsWorkflowAsked (Draw asked) certificate out = IsImageFrom certificate.origin asked certificate.run out
 
 -- THE HEADLINE. The text is that of a valid certificate of a workflow, and what is written is what is asked of it.
 pub record IsWorkflowAnswered (asking : Asking) (text : List ℕ) (end : Done) (out : List ℕ) : Type 0 where

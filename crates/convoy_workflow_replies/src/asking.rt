@@ -1,14 +1,12 @@
-ghost use Rattle.std.specs.Prelude.{◌≡◌, IfOk, IsTrue};
-ghost use Rattle.convoy_commands.specs.Draws.{IsImageOf};
+ghost use Rattle.std.specs.Prelude.{◌≡◌, IfOk};
+ghost use Rattle.convoy_commands.specs.Draws.{IsImageFrom};
 ghost use Rattle.convoy_commands.specs.ReplyLines.{accepted_line};
 ghost use Rattle.convoy_commands.specs.Replies.{SaysUnlessMemory, reply_of};
-ghost use Rattle.convoy_workflow_certificate.specs.WorkflowTexts.{workflow_certificate_text};
-ghost use Rattle.convoy_workflow_checker.specs.WorkflowCheckLaws.{IsGreatestOfWorkflow};
 ghost use Rattle.convoy_workflow_checker.specs.WorkflowValidity.{IsValidWorkflow};
-ghost use Rattle.convoy_workflow_replies.specs.WorkflowAsks.{AskWorkflowSays, IsDenial, IsWorkflowAsked, MayBeAsked};
+ghost use Rattle.convoy_workflow_replies.specs.WorkflowAsks.{AskWorkflowSays, IsDenial, IsWorkflowAsked};
 
 use super::explaining::explanation;
-use convoy_certificate::{Certificate, TextFault};
+use convoy_certificate::TextFault;
 use convoy_commands::{Answer, Asking, Done, Fault};
 use convoy_draw::write_drawing;
 use convoy_lines::push_number_line;
@@ -28,42 +26,12 @@ use std::alloc::{AllocError, Global};
 pub fn ask_workflow(alloc: Global, asking: Asking, text: &[u8]) -> Result<Answer, Fault>
     ensures { SaysUnlessMemory (AskWorkflowSays asking) text.now (reply_of result) }
 {
-    match check_asked(alloc, asking, text) {
+    match check_workflow_text(alloc, text) {
         Ok(certificate) => {
             let told = text_asked(alloc, asking, &certificate)?;
             Ok(about(Done::Fine, told, certificate))
         }
         Err(refusal) => deny(alloc, refusal),
-    }
-}
-
-/// Checks the text of a certificate of a workflow of which this is asked. Where time counts from another message than the
-/// target, no image is drawn: it would tell how late the target is from its own issue.
-fn check_asked(
-    alloc: Global,
-    asking: Asking,
-    text: &[u8],
-) -> Result<WorkflowCertificate, WorkflowRefusal>
-    ensures text { IfOk result (λ certificate. text.now ≡ workflow_certificate_text certificate) }
-    ensures valid { IfOk result IsValidWorkflow }
-    ensures greatest { IfOk result IsGreatestOfWorkflow }
-    ensures may { IfOk result (MayBeAsked asking) }
-{
-    let certificate = check_workflow_text(alloc, text)?;
-    if may_be_asked(asking, &certificate) {
-        Ok(certificate)
-    } else {
-        Err(WorkflowRefusal::NotDrawn)
-    }
-}
-
-/// Whether this may be asked of a certificate.
-fn may_be_asked(asking: Asking, certificate: &WorkflowCertificate) -> bool
-    ensures { IsTrue result → MayBeAsked asking certificate.now }
-{
-    match asking {
-        Asking::Check | Asking::Explain(_) => true,
-        Asking::Draw(_) => certificate.origin == certificate.run.scenario().target_message(),
     }
 }
 
@@ -103,14 +71,13 @@ fn text_asked(
     asking: Asking,
     certificate: &WorkflowCertificate,
 ) -> Result<Vec<u8>, AllocError>
-    requires valid { IsValidWorkflow certificate.now }
-    requires may { MayBeAsked asking certificate.now }
+    requires { IsValidWorkflow certificate.now }
     ensures { IfOk result (λ text. IsWorkflowAsked asking certificate.now text.items) }
 {
     match asking {
         Asking::Check => acceptance(alloc, certificate.run.latency()),
         Asking::Explain(unit) => explanation(alloc, unit, certificate),
-        Asking::Draw(unit) => image(alloc, unit, &certificate.run),
+        Asking::Draw(unit) => image(alloc, unit, certificate),
     }
 }
 
@@ -123,19 +90,20 @@ pub(crate) fn acceptance(alloc: Global, time: u32) -> Result<Vec<u8>, AllocError
     Ok(text)
 }
 
-/// The image of the run of a certificate's schedule.
+/// The image of the run of a certificate's schedule, which tells the time from the issue of its origin.
 fn image(
     alloc: Global,
     unit: Option<TimeUnit>,
-    certificate: &Certificate,
+    certificate: &WorkflowCertificate,
 ) -> Result<Vec<u8>, AllocError>
-    ensures { IfOk result (λ text. IsImageOf unit certificate.now text.items) }
+    ensures { IfOk result (λ text. IsImageFrom certificate.now.origin unit certificate.now.run text.items) }
 {
-    let (instance, schedule) = (certificate.instance(), certificate.schedule());
+    let (instance, schedule) = (certificate.run.instance(), certificate.run.schedule());
     let run = simulate(alloc, instance, schedule)?;
     let picture = Picture::of(alloc, instance, schedule, &run)?;
     let mut text = Vec::new(alloc);
-    let measure = Measure::of(certificate.scenario(), unit, None);
-    write_drawing(certificate.scenario(), measure, &picture, &mut text)?;
+    let scenario = certificate.run.scenario();
+    let measure = Measure::of(scenario, unit, None);
+    write_drawing(scenario, measure, &picture, certificate.origin, &mut text)?;
     Ok(text)
 }

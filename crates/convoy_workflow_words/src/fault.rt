@@ -35,8 +35,9 @@ pub enum WorkflowFault {
     /// The message from whose issue the time counts is none that the target follows, be it through others.
     #[error("the target does not follow the message from which its time counts")]
     UnknownOrigin,
-    /// It is not known when the message is issued from whose issue the time counts.
-    #[error("it is not known when the message is issued from which the target's time counts")]
+    /// The message from whose issue the time counts may wait so long that around its issue no windows can be given to the
+    /// others.
+    #[error("the message from which the target's time counts may wait too long")]
     OriginWaits,
 }
 

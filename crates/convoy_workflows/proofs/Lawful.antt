@@ -4,7 +4,7 @@ use Rattle.std.specs.List.{list_all}
 use Rattle.std.specs.Option.{option_map_or}
 use Rattle.std.specs.Result.{result_and}
 use Rattle.std.specs.Str.{bytes_eq}
-use Rattle.std.proofs.lemmas.Bool.{and_parts, eqb-true, false≢true, lt-ltb, or_cases}
+use Rattle.std.proofs.lemmas.Bool.{and_parts, eqb-true, false≢true, lt-ltb, ltb-true, or_cases}
 use Rattle.convoy_lines.specs.Results.{◌>>=◌}
 use Rattle.convoy_draft.specs.declared.fault.ScenarioFault.{ScenarioFault}
 use Rattle.convoy_draft.specs.declared.fault.ScenarioFault.TheVariants.{Memory}
@@ -21,6 +21,7 @@ use Rattle.convoy_scenario.specs.WellFormed.{IsScenario}
 use Rattle.convoy_scenario.proofs.NumberLemmas.{numbers_have}
 use Rattle.convoy_scenario.proofs.NumberedLemmas.{Passes, passes, scenario_formed}
 use Rattle.convoy_scenario.proofs.RoomLemmas.{room_decided}
+use Rattle.convoy_scenario.proofs.WidenedLemmas.{widened_formed}
 use Rattle.convoy_sim.proofs.Membership.{IsIn, in_of_find, in_of_map}
 use Rattle.convoy_toml.specs.declared.asked.Asked.{Asked}
 use Rattle.convoy_toml.specs.Deadlines.{deadlines_of_written}
@@ -29,10 +30,12 @@ use Rattle.convoy_toml.specs.Shape.{WrittenMessage}
 use Rattle.convoy_toml.specs.Times.{draft_of_written}
 use Rattle.convoy_causes.specs.declared.cause.Cause.{Cause}
 use Rattle.convoy_causes.specs.Causes.{AreCauses, IsCause}
+use Rattle.convoy_causes.specs.CauseWindows.{has_room_from, may_be_origin}
+use Rattle.convoy_causes.proofs.MovedCauses.{targets_have_room}
 use Rattle.convoy_workflow_words.specs.declared.fault.WorkflowFault.{WorkflowFault}
 use Rattle.convoy_workflow_words.specs.declared.fault.WorkflowFault.TheVariants.{Scenario as of_a_scenario, UnknownOrigin}
 use Rattle.convoy_workflows.specs.declared.limits.TheConstants.{GREATEST_OFFSET}
-use Rattle.convoy_workflows.specs.Origins.{cause_of_message, checked_origin, comes_from, does_follow, has_known_issue, origin_of}
+use Rattle.convoy_workflows.specs.Origins.{checked_origin, does_follow, origin_of}
 use Rattle.convoy_workflows.specs.Reading.{need_own_windows, scenario_with_ranges, workflow_of_table, view_of, workflow_of_text, workflow_of_written, workflow_read}
 use Rattle.convoy_workflows.specs.Rules.{DraftCause, cause_of, checked_causes, checks, comes_to, draft_causes, draft_message_at, group_of_event, has_offsets, judge}
 use Rattle.convoy_workflows.specs.Shape.{WrittenCause, WrittenWorkflow, of_scenario, written_of_table}
@@ -71,26 +74,6 @@ soon_from effect message first least e m = omega arith
 late_from : (at wait last effect_at effect_wait effect_last so_long most : ℕ) → at + wait ≡ last → effect_at + effect_wait ≡ effect_last → effect_last ≡ last + so_long + most
     → at + wait + so_long + most ≤ effect_at + effect_wait
 late_from at wait last effect_at effect_wait effect_last so_long most m e l = omega arith
-
-no_wait : (k : ℕ) → not (nat_lt 0 k) ≡ true → k ≡ 0
-no_wait zero h = refl
-no_wait (suc k) h = absurd (false≢true (sym (ap not (lt-ltb 0 (suc k) (omega arith))) ∙ h))
-
--- what a message comes from is the message of a cause
-abbrev IsCaused : List Cause → ℕ → Type 0
-IsCaused causes x = (cause : Cause) × IsIn cause causes × (cause.message ≡ x)
-
-came : (steps : ℕ) (causes : List Cause) (x m : ℕ) (found : Option Cause) → cause_of_message causes m ≡ found → ((k : ℕ) → comes_from steps causes x k ≡ true → IsCaused causes x)
-    → option_map_or (λ cause. (cause.message == x) || comes_from steps causes x cause.message) found false ≡ true → IsCaused causes x
-came steps causes x m None is later h = absurd (false≢true h)
-came steps causes x m (Some cause) is later h = elim (or_cases (cause.message == x) (comes_from steps causes x cause.message) h) [
-  | inl here ↦ (cause, (in_of_find (λ k. k.effect == m) cause causes is).0, eqb-true cause.message x here)
-  | inr more ↦ later cause.message more
-]
-
-comes : (steps : ℕ) (causes : List Cause) (x m : ℕ) → comes_from steps causes x m ≡ true → IsCaused causes x
-comes zero causes x m h = absurd (false≢true h)
-comes (suc steps) causes x m h = came steps causes x m (cause_of_message causes m) refl (comes steps causes x) h
 
 rule_holds : (u : Unit {0}) {r : Result (Unit {0}) WorkflowFault} → r ≡ Ok u → r ≡ Ok tt
 rule_holds tt h = h
@@ -225,29 +208,26 @@ module _ (draft : Draft) (written : List (Option WrittenCause)) where
     all_causes : AreCauses (scenario_of placed) numbered
     all_causes = all_numbered (IsCause (scenario_of placed)) is_cause
 
-    message_known : (cause : Cause) → IsIn cause numbered → cause.message < length (scenario_of placed).multicasts
-    message_known cause i =
-        let from = in_of_map cause_of cause causes i in
-        subst (λ (k : Cause). k.message < length (scenario_of placed).multicasts) from.2 (is_cause from.0 from.1).message
-
     record IsOrigin (x : ℕ) : Type 0 where
       known : x < length (scenario_of placed).multicasts
-      origin : (x ≡ (scenario_of placed).target_message) ⊎ ((message_at (scenario_of placed) x).longest_wait ≡ 0)
+      room : has_room_from (scenario_of placed) x ≡ true
 
     is_origin : IsScenario (scenario_of placed) → (messages : List WrittenMessage) (name : Option (List ℕ)) (x : ℕ) → origin_of (scenario_of placed) numbered messages name ≡ Ok x → IsOrigin x
     is_origin formed messages None x h =
         let same = same_ok (scenario_of placed).target_message x h in
-        record { known = subst (λ (k : ℕ). k < length (scenario_of placed).multicasts) same formed.target; origin = inl (sym same) }
+        record {
+          known = subst (λ (k : ℕ). k < length (scenario_of placed).multicasts) same formed.target;
+          room = subst (λ (k : ℕ). has_room_from (scenario_of placed) k ≡ true) same (targets_have_room widened_formed room_decided (scenario_of placed) formed);
+        }
     is_origin formed messages (Some name) x h =
         let named = bind_ok (ok_or (position (λ message. bytes_eq name message.name) messages) UnknownOrigin) (checked_origin (scenario_of placed) numbered) x h in
         let follow = if_ok (does_follow numbered named.0 (scenario_of placed).target_message) _ _ x named.2 in
-        let issue = if_ok (has_known_issue (scenario_of placed) numbered named.0) _ _ x follow.1 in
+        let issue = if_ok (may_be_origin (scenario_of placed) named.0) _ _ x follow.1 in
         let same : named.0 ≡ x = same_ok named.0 x issue.1 in
-        let from = comes (length numbered) numbered named.0 (scenario_of placed).target_message follow.0 in
-        let still = no_wait _ (and_parts (is_none (cause_of_message numbered named.0)) (not (may_wait (message_at (scenario_of placed) named.0))) issue.0).1 in
+        let parts = and_parts (nat_lt named.0 (length (scenario_of placed).multicasts)) (has_room_from (scenario_of placed) named.0) issue.0 in
         record {
-          known = subst (λ (k : ℕ). k < length (scenario_of placed).multicasts) (from.2 ∙ same) (message_known from.0 from.1);
-          origin = inr (subst (λ (k : ℕ). (message_at (scenario_of placed) k).longest_wait ≡ 0) same still);
+          known = subst (λ (k : ℕ). k < length (scenario_of placed).multicasts) same (ltb-true named.0 (length (scenario_of placed).multicasts) parts.0);
+          room = subst (λ (k : ℕ). has_room_from (scenario_of placed) k ≡ true) same parts.1;
         }
 
   -- what keeps the rules is a workflow
@@ -270,7 +250,7 @@ module _ (draft : Draft) (written : List (Option WrittenCause)) where
         in_order = all_numbered keep pass (λ cause. cause.message < cause.effect) (before keep pass);
         in_windows = all_numbered keep pass (IsInWindow (scenario_of placed)) (is_in_window keep pass);
         known = origin.known;
-        origin = origin.origin;
+        room = origin.room;
       })
 
 -- ---- what a text gives

@@ -1,11 +1,12 @@
 -- From which message's issue the time counts.
-use Rattle.std.specs.Prelude.{ℕ, zero, suc, ◌==◌, Bool, false, not, ◌&&◌, ◌||◌, if◌then◌else◌, List, length, find, position, Option, Some, None, is_none, ok_or, Result, Ok, Err}
+use Rattle.std.specs.Prelude.{ℕ, zero, suc, ◌==◌, Bool, false, ◌||◌, if◌then◌else◌, List, length, find, position, Option, Some, None, ok_or, Result, Ok, Err}
 use Rattle.std.specs.Option.{option_map_or}
 use Rattle.std.specs.Str.{bytes_eq}
 use Rattle.convoy_lines.specs.Results.{◌>>=◌}
-use Rattle.convoy_scenario.specs.Scenario.{Scenario, may_wait, message_at}
+use Rattle.convoy_scenario.specs.Scenario.{Scenario}
 use Rattle.convoy_toml.specs.Shape.{WrittenMessage}
 use Rattle.convoy_causes.specs.declared.cause.Cause.{Cause}
+use Rattle.convoy_causes.specs.CauseWindows.{may_be_origin}
 use Rattle.convoy_workflow_words.specs.declared.fault.WorkflowFault.{WorkflowFault}
 use Rattle.convoy_workflow_words.specs.declared.fault.WorkflowFault.TheVariants.{OriginWaits, UnknownOrigin}
 
@@ -23,15 +24,11 @@ comes_from (suc steps) causes x m =
 abbrev pub does_follow : List Cause → ℕ → ℕ → Bool
 does_follow causes x m = comes_from (length causes) causes x m
 
--- it is known when message x is issued: it follows nothing, and does not wait
-abbrev pub has_known_issue : Scenario → List Cause → ℕ → Bool
-has_known_issue scenario causes x = is_none (cause_of_message causes x) && not (may_wait (message_at scenario x))
-
--- the message, if the target follows it and it is known when it is issued
+-- the message, if the target follows it and there is room to know its issue
 abbrev pub checked_origin : Scenario → List Cause → ℕ → Result ℕ WorkflowFault
 checked_origin scenario causes x =
     if does_follow causes x scenario.target_message
-    then (if has_known_issue scenario causes x then Ok x else Err OriginWaits)
+    then (if may_be_origin scenario x then Ok x else Err OriginWaits)
     else Err UnknownOrigin
 
 -- the message from whose issue the time counts: the target, or the one of the name that is written, among messages as they are written

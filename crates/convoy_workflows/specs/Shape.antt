@@ -113,7 +113,7 @@ message_of_table time table = do
   at ← of_scenario (need At (as_when time) table)
   until ← of_scenario (wish Until (as_when time) table)
   within ← of_scenario (wish Within (as_when time) table)
-  Ok (record { name = name; sender = sender; to = to; at = at; until = until; within = within })
+  Ok (record { name = name; sender = sender; to = to; at = at; until = until; within = within; longer = None })
 
 -- a message as it is written, and what it follows
 abbrev pub step_of_table : Time → Members → Result WrittenStep WorkflowFault

@@ -2,10 +2,12 @@
 
 ghost use Rattle.std.specs.Prelude.{◌≡◌, option_copied, position};
 ghost use Rattle.std.specs.Str.{bytes_eq};
-ghost use Rattle.convoy_workflows.specs.Origins.{cause_of_message, checked_origin, does_follow, has_known_issue, origin_of};
+ghost use Rattle.convoy_draft.specs.declared.fault.ScenarioFault.TheVariants.{Memory};
+ghost use Rattle.convoy_scenario.specs.Memory.{IsUnlessMemory};
+ghost use Rattle.convoy_workflow_words.specs.declared.fault.WorkflowFault.TheVariants as workflow;
+ghost use Rattle.convoy_workflows.specs.Origins.{cause_of_message, checked_origin, does_follow, origin_of};
 
-use convoy_causes::Cause;
-use convoy_scenario::lookup::may_wait;
+use convoy_causes::{Cause, may_be_origin};
 use convoy_scenario::{Name, Scenario};
 use convoy_toml::WrittenMulticast;
 use convoy_workflow_words::WorkflowFault;
@@ -38,13 +40,6 @@ fn does_follow(causes: &[Cause], origin: usize, message: usize) -> bool
     false
 }
 
-/// Whether it is known when a message is issued.
-fn has_known_issue(scenario: &Scenario, causes: &[Cause], message: usize) -> bool
-    ensures { result ≡ has_known_issue scenario.now causes.now message }
-{
-    cause_of_message(causes, message).is_none() && !may_wait(scenario, message)
-}
-
 /// The number of the message of that name, if there is one.
 fn message_named(multicasts: &[WrittenMulticast], name: &Name) -> Option<usize>
     ensures { result ≡ position (λ message. bytes_eq name.now message.name) multicasts.now }
@@ -52,32 +47,33 @@ fn message_named(multicasts: &[WrittenMulticast], name: &Name) -> Option<usize>
     multicasts.iter().position(|m| name.is_same(&m.name))
 }
 
-/// The message, if the target follows it and it is known when it is issued.
+/// The message, if the target follows it and there is room to know its issue. Fails also where memory runs out.
 fn checked_origin(
     scenario: &Scenario,
     causes: &[Cause],
     message: usize,
 ) -> Result<usize, WorkflowFault>
-    ensures { result ≡ checked_origin scenario.now causes.now message }
+    ensures { IsUnlessMemory (workflow.Scenario Memory) (checked_origin scenario.now causes.now message) result }
 {
     if !does_follow(causes, message, scenario.target_message()) {
         return Err(WorkflowFault::UnknownOrigin);
     }
-    if has_known_issue(scenario, causes, message) {
+    if may_be_origin(scenario, message)? {
         Ok(message)
     } else {
         Err(WorkflowFault::OriginWaits)
     }
 }
 
-/// The number of the message from whose issue the time counts: the target, or the one of the name that is written.
+/// The number of the message from whose issue the time counts: the target, or the one of the name that is written. Fails also
+/// where memory runs out.
 pub(crate) fn origin_of(
     scenario: &Scenario,
     causes: &[Cause],
     multicasts: &[WrittenMulticast],
     name: &Option<Name>,
 ) -> Result<usize, WorkflowFault>
-    ensures { result ≡ origin_of scenario.now causes.now multicasts.now name.now }
+    ensures { IsUnlessMemory (workflow.Scenario Memory) (origin_of scenario.now causes.now multicasts.now name.now) result }
 {
     match name {
         Some(name) => {

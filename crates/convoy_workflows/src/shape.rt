@@ -236,6 +236,7 @@ fn multicast_of_table(
         at,
         until,
         within,
+        longer: None,
     })
 }
 

@@ -11,5 +11,5 @@ returns c =
       deliveries = c.deliveries_cut.ensures;
       ends = c.deliveries_end.ensures;
       late_ends = c.late_deliveries_end.ensures;
-      well_too = c.widened_is_scenario.ensures;
+      known = c.known_is_scenario.ensures;
     })

@@ -5,8 +5,6 @@ pub returns : goal.returns
 returns c =
     closed_over (record {
       before = c.delivered_before.ensures;
-      widen = c.caused_runs_widen.ensures;
-      well_too = c.widened_is_scenario.ensures;
-      shift = c.runs_shift.ensures;
+      move = c.caused_runs_move.ensures;
       at_tick = c.issued_at_its_tick.ensures;
     })

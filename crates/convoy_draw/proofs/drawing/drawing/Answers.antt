@@ -16,6 +16,6 @@ returns c =
     let legend = string_bytes c.in_ok-legend.legend in
     let whole : IfOk c.format.result (λ text. string_bytes text
     ≡ start ++ (head ++ (ground ++ (windows ++ (packets ++ (signs ++ (labels ++ (legend ++ codes "</svg>\n")))))))) = search rules in
-    IfOk-weaker c.format.result _ (λ text. IsDrawing c.args.measure.now c.args.scenario.now c.args.picture.now (string_bytes text))
-    (λ text is. drawing_tells c.args.measure.now c.args.scenario.now c.args.picture.now start head ground windows packets signs labels legend (string_bytes text) _ is
-    c.in_ok-start.ensures (rw c.why.ensures at c.in_ok-head.ensures) c.in_ok-windows.ensures c.in_ok-packets.ensures c.in_ok-signs.ensures c.in_ok-legend.ensures.1) whole
+    IfOk-weaker c.format.result _ (λ text. IsDrawing c.args.measure.now c.args.scenario.now c.args.picture.now c.args.origin (string_bytes text))
+    (λ text is. drawing_tells c.args.measure.now c.args.scenario.now c.args.picture.now c.args.origin start head ground windows packets signs labels legend (string_bytes text) _ is
+    c.in_ok-start.ensures c.in_ok-head.ensures c.in_ok-windows.ensures c.in_ok-packets.ensures c.in_ok-signs.ensures c.in_ok-legend.ensures.1) whole
