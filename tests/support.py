@@ -13,6 +13,8 @@ from program import ROOT, program
 PROGRAM = program()
 # A run that takes more seconds than this hangs.
 PATIENCE = 60
+# The examples that `latency` alone reads: a message of the one has several senders, and groups of the other are replicated by white box.
+OF_LATENCY = ("any-client.toml", "white-box.toml")
 
 
 class Wrong(Exception):
@@ -34,6 +36,11 @@ class Answer(typing.NamedTuple):
 def example_scenarios():
     """The texts of examples/ that are scenarios; others are plans, kinds of messages, and workflows."""
     return sorted(path for path in (ROOT / "examples").glob("*.toml") if path.suffixes == [".toml"])
+
+
+def plain_scenarios():
+    """Those of them that each command reads."""
+    return [path for path in example_scenarios() if path.name not in OF_LATENCY]
 
 
 def load(path):

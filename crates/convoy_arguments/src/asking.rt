@@ -74,6 +74,8 @@ pub(crate) fn asked_of(
         target: target_of(alloc, name, given)?,
         at_most: at_most_of(alloc, given)?,
         around: around_of(alloc, given)?,
+        case: None,
+        accept: false,
     })
 }
 

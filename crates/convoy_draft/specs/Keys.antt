@@ -2,7 +2,7 @@
 use Rattle.std.specs.Prelude.{ℕ, if◌then◌else◌, List, Option, Some, None, codes}
 use Rattle.std.specs.Str.{bytes_eq}
 use Rattle.convoy_draft.specs.declared.fault.Key.{Key}
-use Rattle.convoy_draft.specs.declared.fault.Key.TheVariants.{Time, Tick, Delay, Groups, Places, Multicast, Name, From, To, At, Until, Within, Target, Message, Group, Link, Least, Most, Both, Stamps, Agree, Steps, Outage, Schedule, Order, Unknown}
+use Rattle.convoy_draft.specs.declared.fault.Key.TheVariants.{Time, Tick, Delay, Groups, Places, Multicast, Name, From, To, At, Until, Within, Target, Message, Group, Link, Least, Most, Both, Stamps, Agree, Steps, Replicas, Reply, Outage, Schedule, Order, Unknown}
 use Rattle.convoy_draft.specs.declared.time.Time.{Time as AnyTime}
 use Rattle.convoy_draft.specs.declared.time.Time.TheVariants.{Ticks, Real}
 
@@ -30,6 +30,8 @@ key_word Both = codes "both"
 key_word Stamps = codes "stamps"
 key_word Agree = codes "agree"
 key_word Steps = codes "steps"
+key_word Replicas = codes "replicas"
+key_word Reply = codes "reply"
 key_word Outage = codes "outage"
 key_word Schedule = codes "schedule"
 key_word Order = codes "order"

@@ -16,7 +16,7 @@ reached_is_below scenario ways least most (schedule, assigned, (finished, finish
     safe schedule assigned finished (issue scenario schedule scenario.target_message + least) finishing delivered in
     omega (arith, below)
 
-pub between : (scenario : Scenario) (replicas least most : ℕ) (ways : List ℕ) → ways ≡ white_box_ways scenario replicas →
+pub between : (scenario : Scenario) (replicas : List ℕ) (least most : ℕ) (ways : List ℕ) → ways ≡ white_box_ways scenario replicas →
     IsFinishReached scenario ways least → IsUpperOfFinishes scenario ways most → IsFinishBetween scenario replicas least most
 between scenario replicas least most ways are reached safe =
     let by_replicas : IsUpperOfFinishes scenario (white_box_ways scenario replicas) most =

@@ -1,4 +1,3 @@
 pub mod NoSooner
 pub mod Between
 pub mod Ended
-pub mod AcceptedTexts

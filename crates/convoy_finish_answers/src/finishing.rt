@@ -20,19 +20,20 @@ pub struct FinishLatency {
 }
 
 /// What the greatest latency of an instance's target is where each group is replicated by white box and a packet
-/// between the leader of a group and its replicas takes at most so many ticks (docs/PROTOCOL.md, "Replicated groups").
+/// between the leader of a group and its replicas takes at most as many ticks as are listed by the group's number
+/// (docs/PROTOCOL.md, "Replicated groups").
 /// Its least is sought from a schedule of the instance, by so many steps at most where some run may be later than that
 /// allows, and is no less than the latency of that schedule without replicas. Fails where memory runs out, and else
 /// never.
 pub fn finish_between(
     alloc: Global,
     instance: &Instance,
-    replicas: u16,
+    replicas: &[u16],
     start: Schedule,
     steps: u64,
 ) -> Result<FinishLatency, AllocError>
     requires assigned { IsAssignment instance.now start }
-    ensures between { IfOk result (λ found. IsFinishBetween instance.now replicas found.least found.most) }
+    ensures between { IfOk result (λ found. IsFinishBetween instance.now replicas.now found.least found.most) }
     ensures no_sooner { IfOk result (λ found. latency_of instance.now start ≤ found.least) }
 {
     delivery_law();

@@ -1,9 +1,9 @@
-//! What is answered of the latency of a target where each group is replicated by white box, and a message is delivered
+//! What is found of the greatest latency of a target where each group is replicated by white box, and a message is delivered
 //! only once a majority of each of its destinations has answered.
 #![tactic(auto)]
 
+pub use best::best_schedule;
 pub use finishing::{FinishLatency, finish_between};
-pub use latency::latency_accepted_answer;
 
+mod best;
 mod finishing;
-mod latency;

@@ -31,11 +31,16 @@ impl Model for Ways {
 impl Ways {
     /// The ways in groups that are replicated as white boxes (docs/PROTOCOL.md, "Replicated groups"): from the leader
     /// of a group to all replicas of each destination of a message, and from these to the target's group. Between
-    /// replicas of one group a packet takes at most so many ticks, and of two groups what it takes on their link.
+    /// the leader and the replicas of one group a packet takes at most so many ticks as are said by the group's number, none
+    /// where nothing is, and of two groups what it takes on their link.
     /// Fails where memory runs out, and else never.
     #[tactic(auto, unfolding(crate::specs::WhiteBox::white_box_ways))]
-    pub fn white_box(alloc: Global, scenario: &Scenario, replicas: u16) -> Result<Ways, AllocError>
-        ensures { IfOk result (λ ways. ways ≡ white_box_ways scenario.now replicas) }
+    pub fn white_box(
+        alloc: Global,
+        scenario: &Scenario,
+        replicas: &[u16],
+    ) -> Result<Ways, AllocError>
+        ensures { IfOk result (λ ways. ways ≡ white_box_ways scenario.now replicas.now) }
     {
         let count = scenario.message_count() * MOST_GROUPS;
         let mut entries = Vec::with_capacity(alloc, count)?;
@@ -63,9 +68,9 @@ impl Ways {
 
 /// How long it takes at most from when a message comes to a group until all replicas of all its destinations have
 /// answered to the target's group.
-fn white_box_way(scenario: &Scenario, replicas: u16, message: usize, group: usize) -> u32
+fn white_box_way(scenario: &Scenario, replicas: &[u16], message: usize, group: usize) -> u32
     requires { message < length scenario.now.multicasts }
-    ensures value { result ≡ white_box_way scenario.now replicas message group }
+    ensures value { result ≡ white_box_way scenario.now replicas.now message group }
     ensures fits { result ≤ LONGEST_WAY }
 {
     let mut longest = 0u32;
@@ -76,8 +81,8 @@ fn white_box_way(scenario: &Scenario, replicas: u16, message: usize, group: usiz
 }
 
 /// How long it takes at most from a group to the replicas of the group `by`, and from these to the target's group.
-fn way_by(scenario: &Scenario, replicas: u16, group: usize, by: usize) -> u32
-    ensures value { result ≡ way_by scenario.now replicas group by }
+fn way_by(scenario: &Scenario, replicas: &[u16], group: usize, by: usize) -> u32
+    ensures value { result ≡ way_by scenario.now replicas.now group by }
     ensures fits { result ≤ LONGEST_WAY }
 {
     let there = most_between(scenario, replicas, group, by);
@@ -86,11 +91,11 @@ fn way_by(scenario: &Scenario, replicas: u16, group: usize, by: usize) -> u32
 }
 
 /// The greatest delay of a packet between replicas of two groups, in ticks.
-fn most_between(scenario: &Scenario, replicas: u16, from: usize, to: usize) -> u16
-    ensures { result ≡ most_between scenario.now replicas from to }
+fn most_between(scenario: &Scenario, replicas: &[u16], from: usize, to: usize) -> u16
+    ensures { result ≡ most_between scenario.now replicas.now from to }
 {
     if from == to {
-        replicas
+        replicas.get(from).copied().unwrap_or(0)
     } else {
         scenario.range_between(Sender::Group(from), to).1
     }

@@ -29,12 +29,12 @@ use convoy_hints::{
     hint_of_text, is_name_of_file, line_for_file,
 };
 use convoy_plans::PlanFault;
-use convoy_scenario::Scenario;
+use convoy_scenario::{Key, Scenario};
 use convoy_streams::KeptReader;
 use convoy_task_list::{
     CertificateTask, KindsTask, PlanTask, ScenarioTask, SearchTask, Task, TraceTask,
 };
-use convoy_toml::{Asked, outage_of_text};
+use convoy_toml::{Asked, MOST_CASES, acceptances_of_text, cases_of_text, outage_of_text};
 use convoy_workflow_replies::is_workflow_certificate;
 use convoy_workflows::is_workflow;
 use std::alloc::{AllocError, Global};
@@ -271,6 +271,13 @@ fn hint_for_fault<R, W>(alloc: Global, run: &Finished<'_, R, W>, fault: &Fault) 
     }
 }
 
+/// The hint for a text in which who sends the messages may be chosen in too many ways.
+fn hint_for_cases(alloc: Global) -> Result<String, AllocError> {
+    format!(in alloc;
+        "hint: who sends which message may be chosen in more than {MOST_CASES} ways: leave out senders that are no worse than others, or ask about some of them at a time\n"
+    )
+}
+
 /// The hint for a fault that a scenario has, in the text of one or of a workflow.
 fn hint_for_scenario_text<R, W>(
     alloc: Global,
@@ -282,8 +289,18 @@ fn hint_for_scenario_text<R, W>(
         let is_taken = takes_workflow(run.verdict) && !asks_for_outages(alloc, run)?;
         return hint_for_scenario_of_workflow(alloc, is_taken, fault);
     }
+    let is_of_sender = matches!(fault, ScenarioFault::Shape(Key::From));
+    if is_of_sender && has_many_cases(alloc, text)? {
+        return hint_for_cases(alloc).map(Some);
+    }
     let asked = asked_of_input(run);
     hint_for_scenario_or_group(alloc, run.verdict, text, asked, fault)
+}
+
+/// Whether who sends the messages of a text may be chosen in more ways than are asked about.
+fn has_many_cases(alloc: Global, text: &[u8]) -> Result<bool, AllocError> {
+    let count = cases_of_text(alloc, text)?;
+    Ok(count > MOST_CASES)
 }
 
 /// Whether the command line asks for what is told of a workflow, too.
@@ -444,13 +461,14 @@ fn hint_for_open<R, W>(alloc: Global, run: &Finished<'_, R, W>) -> Hint {
         let hint = hint_for_ceiling(alloc, with_outages, simulations, MOST_SIMULATIONS)?;
         return Ok(Some(hint));
     }
-    if asks_for_outages(alloc, run)? {
+    let waits_for_replicas = asks_for_replicas(alloc, run)?;
+    if !waits_for_replicas && asks_for_outages(alloc, run)? {
         return hint_for_open_through_outages(alloc).map(Some);
     }
     let Some(options) = options_of(run.verdict) else {
         return Ok(None);
     };
-    if asks_for_replicas(run.verdict) {
+    if waits_for_replicas {
         return hint_for_open_accept(alloc, options.simulations(), MOST_SIMULATIONS).map(Some);
     }
     if of_workflow(alloc, run)? {
@@ -539,16 +557,32 @@ fn tells_outages(alloc: Global, text: &[u8]) -> Result<bool, AllocError> {
     Ok(outage.is_some())
 }
 
-/// Whether the command line asks for the greatest latency where replicas have to answer.
-fn asks_for_replicas(verdict: &Verdict) -> bool {
-    match task_of(verdict) {
+/// Whether it was asked for the greatest latency where replicas have to answer, on the command line or in the text.
+fn asks_for_replicas<R, W>(alloc: Global, run: &Finished<'_, R, W>) -> Result<bool, AllocError> {
+    match task_of(run.verdict) {
         Some(
             Task::Search {
-                what: SearchTask::Latency { accept, .. },
+                what: SearchTask::Latency {
+                    accept: Some(_),
+                    ..
+                },
                 ..
             },
-        ) => accept.is_some(),
-        _ => false,
+        ) => Ok(true),
+        Some(
+            Task::Search {
+                what: SearchTask::Latency {
+                    with_ceiling: false,
+                    outage: None,
+                    accept: None,
+                },
+                ..
+            },
+        ) if run.reader.is_whole() => {
+            let acceptances = acceptances_of_text(alloc, run.reader.text())?;
+            Ok(!acceptances.is_empty())
+        }
+        _ => Ok(false),
     }
 }
 
@@ -610,7 +644,11 @@ fn hint_for_answer<R, W>(alloc: Global, run: &Finished<'_, R, W>, end: &End) -> 
     if is_batch(run.verdict) {
         return hint_for_jobs_of(alloc, run);
     }
-    let hint = hint_for_kind_of_answer(alloc, run.verdict, end)?;
+    // (none of them speaks of replicas that have to answer)
+    let hint = match hint_for_kind_of_answer(alloc, run.verdict, end)? {
+        Some(_) if asks_for_replicas(alloc, run)? => None,
+        hint => hint,
+    };
     let more = match &end.known {
         Some(
             Known {
@@ -663,14 +701,10 @@ fn hint_for_kind_of_answer(alloc: Global, verdict: &Verdict, end: &End) -> Hint 
 /// The hint for what a search found.
 fn hint_for_found(alloc: Global, what: &SearchTask, end: &End) -> Hint {
     match (what, end.done) {
-        (
-            SearchTask::Latency {
-                accept: Some(_),
-                ..
-            },
-            _,
-        ) => Ok(None),
-        (SearchTask::Latency { .. }, Done::Beyond) => hint_for_late_message(alloc).map(Some),
+        // (in several cases there is no one scenario to ask more about)
+        (SearchTask::Latency { .. }, Done::Beyond) if end.known.is_some() => {
+            hint_for_late_message(alloc).map(Some)
+        }
         (SearchTask::Analyse, Done::Beyond) => hint_for_late_certificate(alloc).map(Some),
         (SearchTask::Order { .. } | SearchTask::Listing { .. }, _) => {
             hint_for_order(alloc).map(Some)

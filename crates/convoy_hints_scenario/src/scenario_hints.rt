@@ -16,12 +16,12 @@ use convoy_hints_sketch::{
 };
 use convoy_scenario::{DraftScenario, Key, Limit, Scenario, ScenarioFault};
 use convoy_toml::{
-    Asked, Placed, PlainNumber, TargetKey, WrittenInput, WrittenScenario, draft_of_written,
-    read_table, written_of_table,
+    Asked, Placed, PlainNumber, ScenarioTable, TargetKey, WrittenInput, WrittenScenario,
+    draft_of_written, read_table, written_of_table,
 };
 use std::alloc::{AllocError, Global};
-use toml::Table;
 use toml::de::Error;
+use toml::{Table, Value};
 
 /// What is wrong with the text of a scenario that has that fault where this is asked, or with what is asked, in one line
 /// `hint: ..`. None where nothing can be said beyond the fault.
@@ -205,18 +205,48 @@ pub fn hint_for_written(
     }
 }
 
-/// What is written in a table that has that fault where this is asked.
+/// What is written in a table that has that fault where this is asked: where messages may have several senders and groups
+/// may be replicated by white box, if the fault is one there, too, and else where they may not.
 fn written_for(
     alloc: Global,
     table: &Table,
     asked: &Asked,
     fault: ScenarioFault,
 ) -> Result<WrittenInput, Placed> {
-    if names_target(asked) {
-        return written_of_table(alloc, table, &asked.target);
+    let in_case = written_by(alloc, table, asked, fault, true);
+    let is_there = match &in_case {
+        Ok(_) => !matches!(fault, ScenarioFault::Shape(_)),
+        Err(placed) => placed.fault == fault,
+    };
+    if is_there {
+        return in_case;
     }
-    let target = target_for(fault);
-    written_of_table(alloc, table, &target)
+    written_by(alloc, table, asked, fault, false)
+}
+
+/// The same, where they may or not.
+fn written_by(
+    alloc: Global,
+    table: &Table,
+    asked: &Asked,
+    fault: ScenarioFault,
+    in_case: bool,
+) -> Result<WrittenInput, Placed> {
+    let target = match &asked.target {
+        TargetKey::Named { message, group } => TargetKey::Named {
+            message: message.copy()?,
+            group: group.copy()?,
+        },
+        TargetKey::Required | TargetKey::Optional => target_for(fault),
+    };
+    let asked = Asked {
+        target,
+        at_most: None,
+        around: None,
+        case: in_case.then_some(0),
+        accept: in_case,
+    };
+    written_of_table(alloc, table, &asked)
 }
 
 /// Whether a text that has that fault has to name its target: some commands read it without one, and it is a
@@ -241,7 +271,38 @@ fn hint_for_key(alloc: Global, source: ScenarioText<'_>, placed: &Placed) -> Hin
         ScenarioFault::OverLimit(Limit::Link) => {
             hint_for_slow(alloc, source, placed, NO_ADDED_RANGE).map(Some)
         }
+        ScenarioFault::UnknownGroup | ScenarioFault::DoubleName => String::from_str(
+            alloc,
+            "each 'name' in a table [[group]] is that of one of the 'groups', and no group has two such tables",
+        )
+        .map(Some),
         _ => Ok(None),
+    }
+}
+
+/// Which key of the target names no group or no client. None for any other fault, and where none is seen to do so.
+fn hint_for_target_names(alloc: Global, source: ScenarioText<'_>, fault: ScenarioFault) -> Hint {
+    let word = Key::Target.word();
+    let Some(target) = source.table.get(word).and_then(Value::as_table) else {
+        return Ok(None);
+    };
+    if fault != ScenarioFault::UnknownGroup {
+        return Ok(None);
+    }
+    let part = source.part(ScenarioTable::Target);
+    if target.get(Key::Group.word()).and_then(Value::as_str) == Some("*") {
+        return format!(in alloc;
+            "'group' in {part} is \"*\", for all groups of the message, of which 'latency' tells, without '--ceiling', and tables of all messages: name one of them here"
+        ).map(Some);
+    }
+    match target.get(Key::Reply.word()).and_then(Value::as_str) {
+        Some(client) => {
+            let client = Quoted(client);
+            format!(in alloc;
+                "'reply' in {part} is {client}: write the name of a place or of a group, or 'client' for clients at no named place"
+            ).map(Some)
+        }
+        None => Ok(None),
     }
 }
 
@@ -307,6 +368,10 @@ fn hint_for_draft(
             let hint = match hint_for_limits(alloc, &sketch, asked, fault)? {
                 Some(hint) => Some(hint),
                 None => hint_for_agreeing(alloc, source, written, fault)?,
+            };
+            let hint = match hint {
+                Some(hint) => Some(hint),
+                None => hint_for_target_names(alloc, source, fault)?,
             };
             with_cause(alloc, source, written, fault, hint)
         }

@@ -59,6 +59,8 @@ pub(crate) fn field_at(table: ScenarioTable, key: Key) -> Field {
         Key::Stamps => (Kind::Flag, "stamps = true"),
         Key::Agree => (Kind::Range, "agree = [1, 3]"),
         Key::Steps => (Kind::Text, "steps = \"twice\""),
+        Key::Replicas => (Kind::Time, "replicas = 3"),
+        Key::Reply => (Kind::Text, "reply = \"eu\""),
         Key::Outage => (Kind::Time, "outage = 400"),
         Key::Schedule => (Kind::Integers, "schedule = [1, 3, 1, 2]"),
         Key::Order => (Kind::Integers, "order = [0, 1, 0, 0]"),
@@ -83,6 +85,7 @@ pub(crate) fn lasting_field(key: Key) -> Option<Field> {
         Key::Until => "until = \"10 ms\"",
         Key::Within => "within = \"400 ms\"",
         Key::Outage => "outage = \"5 s\"",
+        Key::Replicas => "replicas = \"3 ms\"",
         _ => return None,
     };
     Some(Field {
@@ -105,7 +108,7 @@ pub(crate) fn keys_of(table: ScenarioTable) -> &'static [Key] {
             Key::Least,
             Key::Most,
         ],
-        ScenarioTable::Target => &[Key::Message, Key::Group],
+        ScenarioTable::Target => &[Key::Message, Key::Group, Key::Reply],
         ScenarioTable::Link(_) => &[
             Key::From,
             Key::To,
@@ -114,7 +117,7 @@ pub(crate) fn keys_of(table: ScenarioTable) -> &'static [Key] {
             Key::Most,
             Key::Stamps,
         ],
-        ScenarioTable::Group(_) => &[Key::Name, Key::Agree, Key::Steps],
+        ScenarioTable::Group(_) => &[Key::Name, Key::Agree, Key::Steps, Key::Replicas],
     }
 }
 

@@ -32,6 +32,9 @@ pub fn hint_for_shape(
     if is_outside(table, key) {
         return hint_for_outside(alloc, inner.get(OUTSIDE), &part).map(Some);
     }
+    if key == Key::Agree && says_accept(inner) {
+        return hint_for_accept(alloc, Key::Steps, &part).map(Some);
+    }
     match inner.get(key.word()) {
         Some(value) => hint_for_value(alloc, source, inner, key, value, &part).map(Some),
         None => hint_for_absent(alloc, source, inner, key, &part).map(Some),
@@ -105,6 +108,10 @@ fn hint_for_value(
         (Key::From, _) if names_clients(value) => format!(in alloc;
             "'{key}' in {part} has the clients in it: leave the key '{key}' out where clients send"
         ),
+        (Key::From, _) if names_several(value, part.table) => format!(in alloc;
+            "'{key}' in {part} names several senders, and what is asked for is told of one: write one of them, or ask 'latency' without '--ceiling', which tells the worst"
+        ),
+        (Key::Steps, Some(ACCEPT)) => hint_for_accept(alloc, key, part),
         (Key::Steps, Some(word)) => hint_for_steps_word(alloc, word, part),
         (Key::Agree, _) => hint_for_agree(alloc, field, value, part, time),
         (Key::Both, _) if leads_back_to_clients(table) => format!(in alloc;
@@ -227,6 +234,30 @@ fn is_time(value: &Value, time: Time) -> bool {
 fn names_clients(value: &Value) -> bool {
     match value.as_array() {
         Some(items) => items.iter().any(is_clients),
+        None => false,
+    }
+}
+
+/// The word for groups that are replicated by white box.
+const ACCEPT: &str = "accept";
+
+/// Whether a table of groups says that they are replicated by white box.
+fn says_accept(table: &Table) -> bool {
+    table.get(Key::Steps.word()).and_then(Value::as_str) == Some(ACCEPT)
+}
+
+/// Who reads groups that are replicated by white box, and what each table of groups has then.
+fn hint_for_accept(alloc: Global, key: Key, part: &Part<'_>) -> Result<String, AllocError> {
+    format!(in alloc;
+        "'{key}' in {part} is \"accept\", of which only 'latency' tells, without '--ceiling' and '--outage': then each table [[group]] has it, with 'replicas', a time from 0, in place of 'agree'"
+    )
+}
+
+/// Whether a message may be sent by any of several.
+fn names_several(value: &Value, table: ScenarioTable) -> bool {
+    let is_message = matches!(table, ScenarioTable::Multicast(_));
+    match value.as_array() {
+        Some(items) => is_message && !items.is_empty() && items.iter().all(Value::is_str),
         None => false,
     }
 }

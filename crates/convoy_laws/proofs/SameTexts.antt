@@ -17,7 +17,6 @@ use Rattle.convoy_scenario.specs.Scenario.{Scenario}
 use Rattle.convoy_scenario.specs.Room.{has_room}
 use Rattle.convoy_scenario.proofs.GivenScenarios.{given as given_by, passed}
 use Rattle.convoy_scenario.proofs.NumberedLemmas.{passes}
-use Rattle.convoy_toml.specs.declared.target.TargetKey.TheVariants.{Required}
 use Rattle.convoy_toml.specs.Reading.{InputView, as_written, input_of_table, input_of_text, input_of_written, need_ranges, scenario_of_input, scenario_of_text, scenario_of_written, table_of_text}
 use Rattle.convoy_toml.specs.Deadlines.{deadlines_of_written}
 use Rattle.convoy_toml.specs.Shape.{Written, WrittenScenario}
@@ -67,7 +66,7 @@ of_written written scenario e =
 
 given : (text : List ℕ) (written : Written) (scenario : Scenario) → written_of_text text ≡ Ok written → scenario_of_text text ≡ Ok scenario → IsGiven written.scenario scenario
 given text written scenario is e =
-    let table = after_ok (table_of_text text) (written_of_table Required) written is in
+    let table = after_ok (table_of_text text) (written_of_table as_written) written is in
     let same : input_of_text text ≡ input_of_written as_written written = ap (λ r. r >>= input_of_table as_written) table.1 ∙ ap (λ r. r >>= input_of_written as_written) table.2 in
     of_written written scenario (ap scenario_of_input (sym same) ∙ e)
 

@@ -5,8 +5,7 @@ use Rattle.convoy_lines.specs.Results.{◌>>=◌}
 use Rattle.convoy_draft.specs.declared.fault.ScenarioFault.{ScenarioFault}
 use Rattle.convoy_draft.specs.declared.time.Time.TheVariants.{Real}
 use Rattle.convoy_scenario.specs.Scenario.{Scenario}
-use Rattle.convoy_toml.specs.declared.target.TargetKey.TheVariants.{Required}
-use Rattle.convoy_toml.specs.Reading.{scenario_of_text, table_of_text}
+use Rattle.convoy_toml.specs.Reading.{as_written, scenario_of_text, table_of_text}
 use Rattle.convoy_toml.specs.Shape.{Written}
 use Rattle.convoy_toml.specs.Slow.{written_of_table}
 use Rattle.convoy_toml.specs.Times.{is_lasting, tick_of, times_of}
@@ -14,7 +13,7 @@ use Rattle.convoy_sim.specs.Greatest.{IsGreatest}
 
 -- what is written in a text
 abbrev pub written_of_text : List ℕ → Result Written ScenarioFault
-written_of_text text = table_of_text text >>= written_of_table Required
+written_of_text text = table_of_text text >>= written_of_table as_written
 
 -- two texts that say the same scenario, all its times as durations, the second in ticks so many times as fine as those of the first
 pub record SayTheSame (times : ℕ) (text finer_text : List ℕ) : Type 0 where

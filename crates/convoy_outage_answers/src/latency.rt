@@ -76,8 +76,8 @@ pub fn latency_through_answer<R: Threads + Wait + Sync, W: Watch + Sync>(
     })
 }
 
-/// How many ticks of a scenario the outages that are asked for last in all.
-pub(crate) fn span_through(outage: Outage, scenario: &Scenario) -> Result<Span, OutageFault>
+/// How many ticks of a scenario the outages that are asked for last in all, or why that can't be told.
+pub fn span_through(outage: Outage, scenario: &Scenario) -> Result<Span, OutageFault>
     ensures told { IfOk result (LastsFor outage scenario.now) }
     ensures refused { IfErr result (λ cause. span_asked (Some outage) scenario.now ≡ Err cause) }
 {

@@ -3,7 +3,7 @@
 #![tactic(auto)]
 
 pub use answering::survey_through_answer;
-pub use latency::latency_through_answer;
+pub use latency::{latency_through_answer, span_through};
 pub use row_through::RowThrough;
 pub use rows::survey_through;
 pub use upper::outage_latency;

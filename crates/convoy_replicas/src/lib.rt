@@ -2,6 +2,6 @@
 //! asked beside a text.
 #![tactic(auto)]
 
-pub use replicas::{ReplicaFault, replica_ticks};
+pub use replicas::{ReplicaFault, replica_ticks, replicas_of};
 
 mod replicas;

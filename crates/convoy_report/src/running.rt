@@ -79,6 +79,8 @@ fn at_target(
         target: TargetKey::Named { message, group },
         at_most: asked.at_most,
         around: asked.around,
+        case: asked.case,
+        accept: asked.accept,
     })
 }
 

@@ -116,7 +116,7 @@ made_in around sweep envelope written tick =
 abbrev pub written_of_text : Asked → List ℕ → Result WrittenScenario ScenarioFault
 written_of_text asked text = do
   table ← table_of_text text
-  written ← written_of_table asked.target table
+  written ← written_of_table asked table
   Ok written.scenario
 
 -- a fault of the text is one of the sweep

@@ -66,7 +66,7 @@ fn written_of_text(
     ensures { IsUnlessMemory Memory (written_of_text asked.now text.now) result }
 {
     let table = read_table(alloc, text)?;
-    let written = written_of_table(alloc, &table, &asked.target)?;
+    let written = written_of_table(alloc, &table, asked)?;
     Ok(written.scenario)
 }
 

@@ -9,7 +9,10 @@ use Rattle.convoy_toml.specs.declared.asked.Asked.{Asked}
 use Rattle.convoy_toml.specs.declared.written.WrittenTime.{WrittenTime}
 use Rattle.convoy_branch.specs.Options.{Settings}
 use Rattle.convoy_outages.specs.declared.outage.Outage.{Outage}
-use Rattle.convoy_finish_answers.specs.AcceptedLatencies.{AreReplicasRefused}
+use Rattle.convoy_case_answers.specs.declared.late.Late.{Late}
+use Rattle.convoy_case_answers.specs.declared.late.Late.TheVariants as lates
+use Rattle.convoy_case_answers.specs.CaseAnswers.{latency_of_cases_says}
+use Rattle.convoy_case_answers.specs.Founds.{IsCaseRefused, IsLateRefused}
 use Rattle.convoy_workflow_words.specs.declared.fault.WorkflowFault.{WorkflowFault}
 use Rattle.convoy_workflow_words.specs.declared.fault.WorkflowFault.TheVariants as workflows
 use Rattle.convoy_workflows.specs.Reading.{is_workflow_text}
@@ -92,7 +95,7 @@ use Rattle.convoy_trace_ranges.specs.LinkTables.{trace_table_text}
 use Rattle.convoy_workflow_replies.specs.declared.reference.Reference.{Reference}
 use Rattle.convoy_workflow_replies.specs.declared.reference.Reference.TheVariants as references
 use Rattle.convoy_workflow_replies.specs.WorkflowForms.{is_workflow_certificate, told_text}
-use Rattle.convoy_tasks.specs.Tasks.{check_against, check_by, form_says, greatest_says, kinds_say, latency_by, latency_through_by, of_scenario_says, of_workflow_says, outage_told, plan_says, proof_says, scenario_says, search_says, scenario_wanted, survey_through_by, task_says, telling_says, tells_late_run, trace_of_says}
+use Rattle.convoy_tasks.specs.Tasks.{check_against, check_by, form_says, greatest_says, kinds_say, late_by, latency_by, latency_ceiled_by, latency_late_by, of_scenario_says, of_workflow_says, outage_told, plan_says, proof_says, scenario_says, search_says, scenario_wanted, survey_through_by, task_says, telling_says, tells_late_run, trace_of_says}
 
 -- the fault of an answer is that of the reply
 fault_of_fine : (answer : Result (List ℕ) Fault) (fault : Fault) → Err fault ≡ fine answer → answer ≡ Err fault
@@ -160,10 +163,6 @@ through_no_device : (outage : Outage) (asked : Asked) (text : List ℕ) (fault :
 through_no_device outage asked text fault (inl faulty) = search_no_device asked text fault faulty
 through_no_device outage asked text fault (inr refused) = rw refused.told tt
 
-accepted_no_device : (accept : WrittenTime) (asked : Asked) (text : List ℕ) (fault : Fault) → IsFaultyBy asked text fault ⊎ AreReplicasRefused accept asked text fault → IsNoDevice fault
-accepted_no_device accept asked text fault (inl faulty) = search_no_device asked text fault faulty
-accepted_no_device accept asked text fault (inr refused) = rw refused.told tt
-
 no_device_in_workflow : (cause : WorkflowFault) → IsNoDevice (told_of_workflow cause)
 no_device_in_workflow (workflows.Scenario cause) = no_device_in_scenario cause
 no_device_in_workflow other = tt
@@ -176,23 +175,45 @@ proof_no_device : (is_workflow : Bool) (asked : Asked) (settings : Settings) (te
 proof_no_device true asked settings text fault faulty = rw faulty.told (no_device_in_workflow faulty.cause)
 proof_no_device false asked settings text fault says = search_no_device asked text fault says
 
-greatest_no_device : (is_workflow with_ceiling : Bool) (asked : Asked) (settings : Settings) (text : List ℕ) (fault : Fault)
-    → greatest_says is_workflow with_ceiling asked settings text (Err fault) → IsNoDevice fault
-greatest_no_device true with_ceiling asked settings text fault faulty = rw faulty.told (no_device_in_workflow faulty.cause)
-greatest_no_device false true asked settings text fault says = search_no_device asked text fault says
-greatest_no_device false false asked settings text fault says = search_no_device asked text fault says
+late_no_device : (late : Late) (asked : Asked) (text : List ℕ) (fault : Fault) → IsLateRefused late asked text fault → IsNoDevice fault
+late_no_device lates.Nothing asked text fault refused = absurd refused
+late_no_device (lates.Outages outage) asked text fault refused = rw refused.told tt
+late_no_device (lates.Answers span) asked text fault refused = rw refused.told tt
 
-latency_through_no_device : (outage : Option Outage) (with_ceiling : Bool) (asked : Asked) (settings : Settings) (text : List ℕ) (fault : Fault)
-    → latency_through_by outage with_ceiling asked settings text (Err fault) → IsNoDevice fault
-latency_through_no_device None with_ceiling asked settings text fault says =
-    greatest_no_device (not with_ceiling && is_workflow_text text) with_ceiling asked settings text fault says
-latency_through_no_device (Some outage) with_ceiling asked settings text fault says = through_no_device outage asked text fault says
+case_no_device : (late : Late) (asked : Asked) (text : List ℕ) (fault : Fault) → IsCaseRefused late asked text fault → IsNoDevice fault
+case_no_device late asked text fault (inl faulty) = search_no_device asked text fault faulty
+case_no_device late asked text fault (inr (inl refused)) = late_no_device late asked text fault refused
+case_no_device late asked text fault (inr (inr (inl refused))) = rw refused.told (no_device_in_scenario refused.cause)
+case_no_device late asked text fault (inr (inr (inr (inl refused)))) = rw refused.told tt
+case_no_device late asked text fault (inr (inr (inr (inr late_back)))) = rw late_back.told tt
+
+cases_no_device : (late : Late) (asked : Asked) (settings : Settings) (text : List ℕ) (fault : Fault)
+    → latency_of_cases_says late asked settings text (Err fault) → IsNoDevice fault
+cases_no_device late asked settings text fault (inl many) = rw many.told tt
+cases_no_device late asked settings text fault (inr (inl unaimed)) = rw unaimed.told (no_device_in_scenario unaimed.cause)
+cases_no_device late asked settings text fault (inr (inr (inl one))) = case_no_device late one.refused.case text fault one.refused.refused
+cases_no_device late asked settings text fault (inr (inr (inr unlike))) = rw unlike.told tt
+
+greatest_no_device : (is_workflow : Bool) (asked : Asked) (settings : Settings) (text : List ℕ) (fault : Fault)
+    → greatest_says is_workflow asked settings text (Err fault) → IsNoDevice fault
+greatest_no_device true asked settings text fault faulty = rw faulty.told (no_device_in_workflow faulty.cause)
+greatest_no_device false asked settings text fault says = cases_no_device lates.Nothing asked settings text fault says
+
+latency_late_no_device : (late : Late) (asked : Asked) (settings : Settings) (text : List ℕ) (fault : Fault)
+    → latency_late_by late asked settings text (Err fault) → IsNoDevice fault
+latency_late_no_device lates.Nothing asked settings text fault says = greatest_no_device (is_workflow_text text) asked settings text fault says
+latency_late_no_device (lates.Outages outage) asked settings text fault says = cases_no_device (lates.Outages outage) asked settings text fault says
+latency_late_no_device (lates.Answers span) asked settings text fault says = cases_no_device (lates.Answers span) asked settings text fault says
+
+latency_ceiled_no_device : (outage : Option Outage) (asked : Asked) (settings : Settings) (text : List ℕ) (fault : Fault)
+    → latency_ceiled_by outage asked settings text (Err fault) → IsNoDevice fault
+latency_ceiled_no_device None asked settings text fault says = search_no_device asked text fault says
+latency_ceiled_no_device (Some outage) asked settings text fault says = through_no_device outage asked text fault says
 
 latency_no_device : (accept : Option WrittenTime) (outage : Option Outage) (with_ceiling : Bool) (asked : Asked) (settings : Settings) (text : List ℕ) (fault : Fault)
     → latency_by accept outage with_ceiling asked settings text (Err fault) → IsNoDevice fault
-latency_no_device None outage with_ceiling asked settings text fault says =
-    latency_through_no_device (outage_told outage text) with_ceiling asked settings text fault says
-latency_no_device (Some accept) outage with_ceiling asked settings text fault says = accepted_no_device accept asked text fault says
+latency_no_device accept outage true asked settings text fault says = latency_ceiled_no_device (outage_told outage text) asked settings text fault says
+latency_no_device accept outage false asked settings text fault says = latency_late_no_device (late_by accept outage text) asked settings text fault says
 
 survey_no_device : (outage : Option Outage) (format : Format) (with_ceilings : Bool) (asked : Asked) (settings : Settings) (text : List ℕ) (fault : Fault)
     → survey_through_by outage format with_ceilings asked settings text (Err fault) → IsNoDevice fault

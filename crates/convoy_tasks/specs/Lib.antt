@@ -14,6 +14,7 @@ pub use Rattle.convoy_commands.specs.Ceilings as TargetCeilings
 pub use Rattle.convoy_commands.specs.WithCeilings
 pub use Rattle.convoy_commands.specs.Searches
 pub use Rattle.convoy_commands.specs.CommandLaws
+pub use Rattle.convoy_case_answers.specs.CaseAnswers
 pub use Rattle.convoy_survey.specs.Surveys
 pub use Rattle.convoy_survey.specs.CeilingTables
 pub use Rattle.convoy_what_if.specs.WhatIf

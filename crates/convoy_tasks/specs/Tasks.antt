@@ -1,5 +1,5 @@
 -- The tasks: what each may answer for a text, and how long the text may be.
-use Rattle.std.specs.Prelude.{ℕ, Bool, true, false, ◌&&◌, not, List, Option, Some, None, string_bytes}
+use Rattle.std.specs.Prelude.{ℕ, nat_le, length, if◌then◌else◌, Bool, true, false, List, Option, Some, None, string_bytes}
 use Rattle.std.specs.Option.{option_map}
 use Rattle.convoy_scenario.specs.Scenario.{Scenario}
 use Rattle.convoy_commands.specs.declared.asking.Asking.TheVariants as askings
@@ -14,12 +14,14 @@ use Rattle.convoy_commands.specs.Searches.{AnalyseSays}
 use Rattle.convoy_commands.specs.Tells.{TellSays}
 use Rattle.convoy_commands.specs.declared.telling.Telling.{Telling}
 use Rattle.convoy_commands.specs.declared.telling.Telling.TheVariants as tellings
-use Rattle.convoy_toml.specs.Reading.{as_written, outage_of_text}
+use Rattle.convoy_toml.specs.Reading.{acceptances_of_text, as_written, outage_of_text}
 use Rattle.convoy_commands.specs.WithCeilings.{explain_says, latency_says}
 use Rattle.convoy_commands.specs.Withins.{SaysWithin}
 use Rattle.convoy_outages.specs.declared.outage.Outage.{Outage}
 use Rattle.convoy_outage_answers.specs.Latencies.{latency_through_says}
-use Rattle.convoy_finish_answers.specs.AcceptedLatencies.{latency_accepted_says}
+use Rattle.convoy_case_answers.specs.declared.late.Late.{Late}
+use Rattle.convoy_case_answers.specs.declared.late.Late.TheVariants as lates
+use Rattle.convoy_case_answers.specs.CaseAnswers.{latency_of_cases_says}
 use Rattle.convoy_workflows.specs.Reading.{is_workflow_text}
 use Rattle.convoy_workflow_answers.specs.WorkflowLatencies.{workflow_latency_says}
 use Rattle.convoy_workflow_answers.specs.LateRuns.{LateRunSays}
@@ -119,24 +121,45 @@ proof_says false asked settings = AnalyseSays asked settings
 abbrev pub analyse_by : Asked → Settings → Rule
 analyse_by asked settings text = proof_says (is_workflow_text text) asked settings text
 
--- the greatest latency of a workflow, or of a scenario, with its ceiling where that is asked for
-abbrev pub greatest_says : Bool → Bool → Asked → Settings → Rule
-greatest_says true with_ceiling asked settings = workflow_latency_says asked settings
-greatest_says false with_ceiling asked settings = latency_says with_ceiling asked settings
+-- the greatest latency with the ceiling below it, and with what none is above through outages where these are asked for
+abbrev pub latency_ceiled_by : Option Outage → Asked → Settings → Rule
+latency_ceiled_by None asked settings = latency_says true asked settings
+latency_ceiled_by (Some outage) asked settings = latency_through_says true outage asked settings
 
--- the one, where the text is that of a workflow and no ceiling is asked for, and else the other
-abbrev pub latency_told_by : Bool → Asked → Settings → Rule
-latency_told_by with_ceiling asked settings text = greatest_says (not with_ceiling && is_workflow_text text) with_ceiling asked settings text
+-- what keeps the target back where these outages are asked for
+abbrev pub late_through : Option Outage → Late
+late_through None = lates.Nothing
+late_through (Some outage) = lates.Outages outage
 
--- the same, with what none is above through outages where these are asked for
-abbrev pub latency_through_by : Option Outage → Bool → Asked → Settings → Rule
-latency_through_by None with_ceiling asked settings = latency_told_by with_ceiling asked settings
-latency_through_by (Some outage) with_ceiling asked settings = latency_through_says with_ceiling outage asked settings
+-- what does by the text alone: the answers of replicas where its groups are replicated by white box, and else the outages that it tells, if it does
+abbrev pub late_of_text : List ℕ → Late
+late_of_text text = if nat_le 1 (length (acceptances_of_text text)) then lates.Answers None else late_through (outage_told None text)
 
--- the same of the outages that the option or the text tells, or in place of these two the greatest latency where replicas have to answer, where that is asked for, whatever outages the text tells
+-- what does by an option, or else by the text
+abbrev pub late_by : Option WrittenTime → Option Outage → List ℕ → Late
+late_by (Some span) outage text = lates.Answers (Some span)
+late_by None (Some outage) text = lates.Outages outage
+late_by None None text = late_of_text text
+
+-- the greatest latency of a workflow, or in all cases of a scenario text
+abbrev pub greatest_says : Bool → Asked → Settings → Rule
+greatest_says true asked settings = workflow_latency_says asked settings
+greatest_says false asked settings = latency_of_cases_says lates.Nothing asked settings
+
+-- the one or the other, as the text is
+abbrev pub greatest_by : Asked → Settings → Rule
+greatest_by asked settings text = greatest_says (is_workflow_text text) asked settings text
+
+-- the same with what keeps the target back, where something does: then the text is that of no workflow
+abbrev pub latency_late_by : Late → Asked → Settings → Rule
+latency_late_by lates.Nothing asked settings = greatest_by asked settings
+latency_late_by (lates.Outages outage) asked settings = latency_of_cases_says (lates.Outages outage) asked settings
+latency_late_by (lates.Answers span) asked settings = latency_of_cases_says (lates.Answers span) asked settings
+
+-- the greatest latency with what the option or the text tells that keeps the target back; or where the ceiling is asked for as well, of which no case and no replica knows, that of one scenario
 abbrev pub latency_by : Option WrittenTime → Option Outage → Bool → Asked → Settings → Rule
-latency_by None outage with_ceiling asked settings text = latency_through_by (outage_told outage text) with_ceiling asked settings text
-latency_by (Some accept) outage with_ceiling asked settings text = latency_accepted_says accept asked settings text
+latency_by accept outage false asked settings text = latency_late_by (late_by accept outage text) asked settings text
+latency_by accept outage true asked settings text = latency_ceiled_by (outage_told outage text) asked settings text
 
 -- the greatest latencies of all targets, with what none is above through outages where these are asked for
 abbrev pub survey_through_by : Option Outage → Format → Bool → Asked → Settings → Rule

@@ -4,7 +4,7 @@ ghost use Rattle.convoy_commands.specs.Replies.{SaysUnlessMemory, reply_of};
 ghost use Rattle.convoy_commands.specs.WithCeilings.{explain_says};
 ghost use Rattle.convoy_commands.specs.Withins.{SaysWithin};
 ghost use Rattle.convoy_commands.specs.declared.done.Done.TheVariants.{NotChecked};
-ghost use Rattle.convoy_tasks.specs.Tasks.{IsToldAtOnce, analyse_by, ceiling_by, ceilings_by, certificate_says, check_against, check_by, kinds_say, latency_by, latency_through_by, latency_told_by, longest_for, longest_for_plan, of_scenario_says, of_workflow_says, outage_told, plan_says, scenario_says, scenario_wanted, search_says, survey_by, survey_through_by, task_says, telling_by, told_by, trace_of_says, trace_task_says};
+ghost use Rattle.convoy_tasks.specs.Tasks.{IsToldAtOnce, analyse_by, ceiling_by, ceilings_by, certificate_says, check_against, check_by, kinds_say, late_by, late_of_text, late_through, latency_by, latency_ceiled_by, latency_late_by, greatest_by, longest_for, longest_for_plan, of_scenario_says, of_workflow_says, outage_told, plan_says, scenario_says, scenario_wanted, search_says, survey_by, survey_through_by, task_says, telling_by, told_by, trace_of_says, trace_task_says};
 ghost use Rattle.convoy_commands.specs.declared.telling.Telling.TheVariants.{Toml};
 
 use super::scenario_text::answer_scenario;
@@ -12,12 +12,12 @@ use convoy_batches::{LONGEST_BATCH, batch_table_answer};
 use convoy_best_order::{Wanted, listing_answer, order_answer};
 use convoy_best_plan::{PlanWatch, placing_answer, plan_answer};
 use convoy_budget::budget_answer;
+use convoy_case_answers::{Late, latency_of_cases_answer};
 use convoy_commands::{
     Answer, Asking, Fault, LONGEST_CERTIFICATE, LONGEST_JOB, Options, Telling, Watch,
     analyse_answer, ask, ceiling_answer, explain_with_ceiling, first_answer, latency_answer,
     ranges_answer, tell,
 };
-use convoy_finish_answers::latency_accepted_answer;
 use convoy_outage_answers::{latency_through_answer, survey_through_answer};
 use convoy_outages::Outage;
 use convoy_plan_ceilings::{ceiling_placing_answer, plan_ceiling_answer};
@@ -36,7 +36,7 @@ use convoy_text_answers::{
     answer_beside, answer_fits, answer_kinds, answer_trace_ranges, answer_trace_table,
     answer_worst_kind, check_answer,
 };
-use convoy_toml::{Asked, WrittenTime, outage_of_text};
+use convoy_toml::{Asked, WrittenTime, acceptances_of_text, outage_of_text};
 use convoy_what_if::what_if_answer;
 use convoy_workflow_answers::{late_run_answer, workflow_latency_answer, workflow_proof_answer};
 use convoy_workflow_replies::{
@@ -334,8 +334,8 @@ fn answer_proof<R: Threads + Wait + Sync, W: Watch + Sync>(
     }
 }
 
-/// The greatest latency, and what none is above through outages where the option or the text tells some; or, where that is
-/// asked for, the one where replicas have to answer, and then the text is not asked for outages.
+/// The greatest latency with what the option or the text tells that keeps the target back; or, where the ceiling is asked for
+/// as well, that of one scenario, with its ceiling below it.
 fn answer_latency<R: Threads + Wait + Sync, W: Watch + Sync>(
     rt: &R,
     alloc: Global,
@@ -350,61 +350,111 @@ fn answer_latency<R: Threads + Wait + Sync, W: Watch + Sync>(
     ensures { SaysUnlessMemory (latency_by accept outage with_ceiling asked.now options.now) text.now
         (reply_of result) }
 {
-    match accept {
-        Some(accept) => latency_accepted_answer(rt, alloc, accept, asked, text, options, watch),
-        None => {
-            let outage = outage_told(alloc, outage, text)?;
-            answer_through(rt, alloc, with_ceiling, outage, asked, options, text, watch)
-        }
+    if with_ceiling {
+        let outage = outage_told(alloc, outage, text)?;
+        answer_ceiled(rt, alloc, outage, asked, options, text, watch)
+    } else {
+        let late = late_by(alloc, accept, outage, text)?;
+        answer_late(rt, alloc, &late, asked, options, text, watch)
     }
 }
 
-/// The greatest latency, and what none is above through outages where these are asked for.
-fn answer_through<R: Threads + Wait + Sync, W: Watch + Sync>(
+/// The greatest latency with the ceiling below it, and with what none is above through outages where these are asked for.
+fn answer_ceiled<R: Threads + Wait + Sync, W: Watch + Sync>(
     rt: &R,
     alloc: Global,
-    with_ceiling: bool,
     outage: Option<Outage>,
     asked: &Asked,
     options: &Options,
     text: &[u8],
     watch: &W,
 ) -> Result<Answer, Fault>
-    ensures { SaysUnlessMemory (latency_through_by outage with_ceiling asked.now options.now) text.now
-        (reply_of result) }
+    ensures { SaysUnlessMemory (latency_ceiled_by outage asked.now options.now) text.now (reply_of result) }
 {
     match outage {
-        Some(outage) => latency_through_answer(
-            rt,
-            alloc,
-            with_ceiling,
-            outage,
-            asked,
-            text,
-            options,
-            watch,
-        ),
-        None => answer_told(rt, alloc, with_ceiling, asked, options, text, watch),
+        Some(outage) => {
+            latency_through_answer(rt, alloc, true, outage, asked, text, options, watch)
+        }
+        None => latency_answer(rt, alloc, true, asked, text, options, watch),
     }
 }
 
-/// The greatest latency: of a workflow, where the text is that of one, and else of a scenario.
-fn answer_told<R: Threads + Wait + Sync, W: Watch + Sync>(
+/// What keeps the target back, by an option or else by the text.
+fn late_by(
+    alloc: Global,
+    accept: Option<WrittenTime>,
+    outage: Option<Outage>,
+    text: &[u8],
+) -> Result<Late, AllocError>
+    ensures { IfOk result (λ late. late ≡ late_by accept outage text.now) }
+{
+    match (accept, outage) {
+        (Some(span), _) => Ok(Late::Answers(Some(span))),
+        (None, Some(outage)) => Ok(Late::Outages(outage)),
+        (None, None) => late_of_text(alloc, text),
+    }
+}
+
+/// What does by the text alone: the answers of replicas where its groups are replicated by white box, and else the outages
+/// that it tells, if it does.
+fn late_of_text(alloc: Global, text: &[u8]) -> Result<Late, AllocError>
+    ensures { IfOk result (λ late. late ≡ late_of_text text.now) }
+{
+    let acceptances = acceptances_of_text(alloc, text)?;
+    if acceptances.is_empty() {
+        let outage = outage_told(alloc, None, text)?;
+        Ok(late_through(outage))
+    } else {
+        Ok(Late::Answers(None))
+    }
+}
+
+/// What does where these outages are asked for.
+fn late_through(outage: Option<Outage>) -> Late
+    ensures { result ≡ late_through outage }
+{
+    match outage {
+        Some(outage) => Late::Outages(outage),
+        None => Late::Nothing,
+    }
+}
+
+/// The greatest latency with what keeps the target back, where something does; else of a workflow, where the text is that of
+/// one.
+fn answer_late<R: Threads + Wait + Sync, W: Watch + Sync>(
     rt: &R,
     alloc: Global,
-    with_ceiling: bool,
+    late: &Late,
     asked: &Asked,
     options: &Options,
     text: &[u8],
     watch: &W,
 ) -> Result<Answer, Fault>
-    ensures { SaysUnlessMemory (latency_told_by with_ceiling asked.now options.now) text.now (reply_of result) }
+    ensures { SaysUnlessMemory (latency_late_by late.now asked.now options.now) text.now (reply_of result) }
 {
-    let is_workflow = is_workflow(alloc, text)?;
-    if !with_ceiling && is_workflow {
+    match late {
+        Late::Nothing => answer_greatest(rt, alloc, asked, options, text, watch),
+        Late::Outages(_) | Late::Answers(_) => {
+            latency_of_cases_answer(rt, alloc, late, asked, text, options, watch)
+        }
+    }
+}
+
+/// The greatest latency: of a workflow, where the text is that of one, and else in all cases of a scenario text.
+fn answer_greatest<R: Threads + Wait + Sync, W: Watch + Sync>(
+    rt: &R,
+    alloc: Global,
+    asked: &Asked,
+    options: &Options,
+    text: &[u8],
+    watch: &W,
+) -> Result<Answer, Fault>
+    ensures { SaysUnlessMemory (greatest_by asked.now options.now) text.now (reply_of result) }
+{
+    if is_workflow(alloc, text)? {
         workflow_latency_answer(alloc, asked, text, options)
     } else {
-        latency_answer(rt, alloc, with_ceiling, asked, text, options, watch)
+        latency_of_cases_answer(rt, alloc, &Late::Nothing, asked, text, options, watch)
     }
 }
 

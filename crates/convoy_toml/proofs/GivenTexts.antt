@@ -111,7 +111,7 @@ record IsAbout (asked : Asked) (input : InputView) : Type 0 where
 about_input : (asked : Asked) (text : List ℕ) (input : InputView) → input_of_text_by asked text ≡ Ok input → IsAbout asked input
 about_input asked text input e =
     let table = after_ok (table_of_text text) (input_of_table asked) input e in
-    let written = after_ok (written_of_table asked.target table.0) (input_of_written asked) input table.2 in
+    let written = after_ok (written_of_table asked table.0) (input_of_written asked) input table.2 in
     let given = after_ok (scenario_of_written written.0.scenario) (input_of_scenario asked written.0) input written.2 in
     let timed = after_ok (deadlines_of_written asked.at_most written.0.scenario) (λ deadlines. asked_around asked.around given.0 >>= input_about written.0) input given.2 in
     let about = after_ok (asked_around asked.around given.0) (input_about written.0) input timed.2 in

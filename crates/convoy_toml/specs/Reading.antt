@@ -1,5 +1,6 @@
 -- The scenario of a TOML table, and of a text, with the schedule and the order of its ties that are given beside it.
-use Rattle.std.specs.Prelude.{ℕ, ℤ, Bool, if◌then◌else◌, List, [], Option, None, option_and_then, option_map, unwrap_or, is_some, ok_or, Result, Ok, Err}
+use Rattle.std.specs.Prelude.{ℕ, ℤ, Bool, false, if◌then◌else◌, List, [], Option, None, option_and_then, option_map, unwrap_or, is_some, ok_or, Result, Ok, Err}
+use Rattle.std.specs.Option.{option_map_or}
 use Rattle.std.specs.Result.{result_map_both, result_ok}
 use Rattle.std.specs.Str.{is_utf8}
 use Rattle.toml.specs.Data.{Members}
@@ -17,7 +18,7 @@ use Rattle.convoy_lines.specs.Results.{◌>>=◌}
 use Rattle.convoy_toml.specs.Around.{asked_around}
 use Rattle.convoy_toml.specs.Deadlines.{deadlines_of_written}
 use Rattle.convoy_toml.specs.Outside.{LinkShare, shares_of_table}
-use Rattle.convoy_toml.specs.Shape.{Written, WrittenScenario, outage_of_table, time_of_table, unit_of_table}
+use Rattle.convoy_toml.specs.Shape.{Written, WrittenAcceptance, WrittenScenario, acceptances_of_table, outage_of_table, time_of_table, unit_of_table}
 use Rattle.convoy_toml.specs.Slow.{written_of_table}
 use Rattle.convoy_toml.specs.declared.written.WrittenTime.{WrittenTime}
 use Rattle.convoy_toml.specs.Times.{draft_of_written}
@@ -37,13 +38,13 @@ table_of_text text = if is_utf8 text then ok_or (parse_document text) NotToml el
 abbrev pub need_ranges : Bool → Draft → Result (Unit {0}) ScenarioFault
 need_ranges has_least draft = if has_ranges has_least draft then Ok tt else Err NoRange
 
--- ask nothing beside the text: it has to name its target
+-- ask nothing beside the text: it has to name its target, and one sender of each message, and no group is replicated by white box
 abbrev pub as_written : Asked
-as_written = record { target = Required; at_most = None; around = None }
+as_written = record { target = Required; at_most = None; around = None; case = None; accept = false }
 
 -- the same, but it may leave out its target
 abbrev pub of_any_target : Asked
-of_any_target = record { target = Optional; at_most = None; around = None }
+of_any_target = record { target = Optional; at_most = None; around = None; case = None; accept = false }
 
 -- the scenario of what is written: its times in ticks first, then the checks of the scenario, and then whether ranges are written
 abbrev pub scenario_of_written : WrittenScenario → Result Scenario ScenarioFault
@@ -63,7 +64,7 @@ input_of_written asked written = do
 
 -- what a table gives, where that is asked: its shape first, then what is said of that
 abbrev pub input_of_table : Asked → Members → Result InputView ScenarioFault
-input_of_table asked table = written_of_table asked.target table >>= input_of_written asked
+input_of_table asked table = written_of_table asked table >>= input_of_written asked
 
 -- what a text gives, where that is asked
 abbrev pub input_of_text_by : Asked → List ℕ → Result InputView ScenarioFault
@@ -89,7 +90,7 @@ scenario_of_text text = scenario_of_text_by as_written text
 abbrev pub deadlines_of_text : Asked → List ℕ → List (Option ℕ)
 deadlines_of_text asked text = of_reading (table_of_text text >>= of_table) where
   of_table : Members → Result (List (Option ℕ)) ScenarioFault
-  of_table table = written_of_table asked.target table >>= λ written. deadlines_of_written asked.at_most written.scenario
+  of_table table = written_of_table asked table >>= λ written. deadlines_of_written asked.at_most written.scenario
 
   of_reading : Result (List (Option ℕ)) ScenarioFault → List (Option ℕ)
   of_reading (Ok deadlines) = deadlines
@@ -109,6 +110,10 @@ outage_in table = unwrap_or (result_ok (time_of_table table >>= λ time. outage_
 -- the same of a text; none where that is no table
 abbrev pub outage_of_text : List ℕ → Option WrittenTime
 outage_of_text text = option_and_then outage_in (result_ok (table_of_text text))
+
+-- the groups that are replicated by white box, where the tables of groups of a text say so; none where it is no table
+abbrev pub acceptances_of_text : List ℕ → List WrittenAcceptance
+acceptances_of_text text = option_map_or acceptances_of_table (result_ok (table_of_text text)) []
 
 -- what was read, with schedule and order as lists
 abbrev pub input_read : Result Input ScenarioFault → Result InputView ScenarioFault

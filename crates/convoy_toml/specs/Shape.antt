@@ -4,21 +4,24 @@ use Rattle.std.specs.BTreeMap.{BTreeMap}
 use Rattle.std.specs.declared.alloc.Global.{Global}
 use Rattle.toml.specs.View.{table_view}
 use Rattle.toml.specs.declared.value.Value.{Value}
-use Rattle.std.specs.Prelude.{Vec, String, map, ℕ, nat_le, Bool, true, false, not, ◌&&◌, ◌||◌, if◌then◌else◌, ℤ, pos, int_le, List, [], ◌∷◌, length, slice_index_or, find, codes, Option, Some, None, is_some, is_none, option_map, option_and_then, ok_or, unwrap_or, Result, Ok, Err}
-use Rattle.std.specs.List.{list_any, slice_get}
+use Rattle.std.specs.Prelude.{Vec, String, map, flat_map, ℕ, nat_le, ◌/◌, ◌%◌, Bool, true, false, not, ◌&&◌, ◌||◌, if◌then◌else◌, ℤ, pos, int_le, List, [], ◌∷◌, length, slice_index_or, find, codes, Option, Some, None, is_some, is_none, option_map, option_and_then, ok_or, unwrap_or, Result, Ok, Err}
+use Rattle.std.specs.List.{list_all, list_any, slice_get}
 use Rattle.std.specs.Option.{option_map_or, option_or}
+use Rattle.std.specs.Result.{result_ok}
 use Rattle.std.specs.Str.{bytes_eq}
 use Rattle.toml.specs.Data.{Data, Items, no_items, item, Members, no_members, member, get_member, as_str, as_integer, as_bool, as_array, as_table}
 use Rattle.convoy_lines.specs.Results.{◌>>=◌}
 use Rattle.convoy_draft.specs.declared.fault.Key.{Key}
-use Rattle.convoy_draft.specs.declared.fault.Key.TheVariants.{Time, Tick, Delay, Groups, Places, Multicast, Name, From, To, At, Until, Within, Target, Message, Group, Link, Least, Most, Both, Stamps, Agree, Steps, Outage, Schedule, Order, Unknown}
+use Rattle.convoy_draft.specs.declared.fault.Key.TheVariants.{Time, Tick, Delay, Groups, Places, Multicast, Name, From, To, At, Until, Within, Target, Message, Group, Link, Least, Most, Both, Stamps, Agree, Steps, Replicas, Reply, Outage, Schedule, Order, Unknown}
 use Rattle.convoy_draft.specs.declared.fault.ScenarioFault.{ScenarioFault}
-use Rattle.convoy_draft.specs.declared.fault.ScenarioFault.TheVariants.{Shape}
+use Rattle.convoy_draft.specs.declared.fault.ScenarioFault.TheVariants.{DoubleName, Shape, UnknownGroup}
 use Rattle.convoy_draft.specs.declared.time.Time.{Time as AnyTime}
 use Rattle.convoy_draft.specs.declared.time.Time.TheVariants.{Ticks, Real}
+use Rattle.convoy_draft.specs.Checks.{all_differ, is_among}
 use Rattle.convoy_draft.specs.Durations.{duration_of, unit_of_text}
 use Rattle.convoy_draft.specs.declared.duration.TimeUnit.{TimeUnit}
 use Rattle.convoy_draft.specs.Keys.{key_word, time_named}
+use Rattle.convoy_toml.specs.declared.asked.Asked.{Asked}
 use Rattle.convoy_toml.specs.declared.target.TargetKey.{TargetKey}
 use Rattle.convoy_toml.specs.declared.target.TargetKey.TheVariants.{Named, Required, Optional}
 use Rattle.convoy_toml.specs.declared.written.WrittenRange.{WrittenRange}
@@ -55,6 +58,11 @@ pub record WrittenAgreement : Type 0 where
   pub least : WrittenTime
   pub most : WrittenTime
   pub twice : Bool
+
+-- groups that are replicated by white box as it is written, and what a packet between the leader of one and its replicas takes at most
+pub record WrittenAcceptance : Type 0 where
+  pub groups : List (List ℕ)
+  pub replicas : WrittenTime
 
 -- a target as it is written: the message of which the latency is asked, and the group
 pub record WrittenTarget : Type 0 where
@@ -125,6 +133,14 @@ as_duration Real value = option_and_then duration_of (as_str value)
 abbrev pub as_when : AnyTime → Data → Option WrittenTime
 as_when time value = option_or (option_map Count (as_integer value)) (option_map Lasting (as_duration time value))
 
+-- a value is a number below 0
+abbrev pub is_below_zero : Data → Bool
+is_below_zero value = option_map_or (λ number. not (int_le (pos 0) number)) (as_integer value) false
+
+-- how long something lasts: a time that is none below 0
+abbrev pub as_long : AnyTime → Data → Option WrittenTime
+as_long time value = if is_below_zero value then None else as_when time value
+
 -- the length of a tick: a duration above 0, where time is real
 abbrev pub as_tick : AnyTime → Data → Option ℕ
 as_tick time value = option_and_then (λ length. if nat_le 1 length then Some length else None) (as_duration time value)
@@ -160,27 +176,6 @@ longer_of_table time table = do
   most ← wish Most (as_when time) table
   both_or_none least most
 
--- a message as it is written
-abbrev pub message_of_table : AnyTime → Members → Result WrittenMessage ScenarioFault
-message_of_table time table = do
-  name ← need Name as_str table
-  sender ← wish From as_str table
-  to ← need_all To as_str table
-  at ← need At (as_when time) table
-  until ← wish Until (as_when time) table
-  within ← wish Within (as_when time) table
-  longer ← longer_of_table time table
-  _ ← need_only (Name ∷ From ∷ To ∷ At ∷ Until ∷ Within ∷ Least ∷ Most ∷ []) table
-  Ok (record { name = name; sender = sender; to = to; at = at; until = until; within = within; longer = longer })
-
--- the messages, unless one is at fault
-abbrev pub messages_of : AnyTime → List Members → Result (List WrittenMessage) ScenarioFault
-messages_of time [] = Ok []
-messages_of time (table ∷ tables) = do
-  message ← message_of_table time table
-  messages ← messages_of time tables
-  Ok (message ∷ messages)
-
 -- the list, if it has an item
 abbrev pub filled : {A : Type 0} → List A → Option (List A)
 filled xs = if nat_le 1 (length xs) then Some xs else None
@@ -192,6 +187,48 @@ names_in items = option_and_then filled (all_of as_str items)
 -- the names that a value tells: a text tells one, and an array of texts those in it
 abbrev pub as_names : Data → Option (List (List ℕ))
 as_names value = option_or (option_map (λ name. name ∷ []) (as_str value)) (option_and_then names_in (as_array value))
+
+-- the names that the table of a message has at the key of its sender, where it has some
+abbrev pub senders_of_table : Members → Option (List (List ℕ))
+senders_of_table table = option_and_then as_names (get_member (key_word From) table)
+
+-- how many may send the message of a table: one where none is named
+abbrev pub sender_count : Members → ℕ
+sender_count table = option_map_or length (senders_of_table table) 1
+
+-- who of several sends in that case
+abbrev pub sender_in : ℕ → List (List ℕ) → Option (List ℕ)
+sender_in case names = slice_get names (case % length names)
+
+-- who sends the message of a table: where no case is asked about it names one at most, and else the one of that case
+abbrev pub sender_of_table : Option ℕ → Members → Result (Option (List ℕ)) ScenarioFault
+sender_of_table None table = wish From as_str table
+sender_of_table (Some case) table = wish From as_names table >>= λ names. Ok (option_and_then (sender_in case) names)
+
+-- the case of the messages below that of a table: who sends changes fastest in the first message
+abbrev pub case_after : Option ℕ → Members → Option ℕ
+case_after case table = option_map (λ n. n / sender_count table) case
+
+-- a message as it is written, sent as in that case
+abbrev pub message_of_table : Option ℕ → AnyTime → Members → Result WrittenMessage ScenarioFault
+message_of_table case time table = do
+  name ← need Name as_str table
+  sender ← sender_of_table case table
+  to ← need_all To as_str table
+  at ← need At (as_when time) table
+  until ← wish Until (as_when time) table
+  within ← wish Within (as_when time) table
+  longer ← longer_of_table time table
+  _ ← need_only (Name ∷ From ∷ To ∷ At ∷ Until ∷ Within ∷ Least ∷ Most ∷ []) table
+  Ok (record { name = name; sender = sender; to = to; at = at; until = until; within = within; longer = longer })
+
+-- the messages, unless one is at fault
+abbrev pub messages_of : Option ℕ → AnyTime → List Members → Result (List WrittenMessage) ScenarioFault
+messages_of case time [] = Ok []
+messages_of case time (table ∷ tables) = do
+  message ← message_of_table case time table
+  messages ← messages_of (case_after case table) time tables
+  Ok (message ∷ messages)
 
 -- whether links lead back as well: only where it is named who sends, since nothing is sent to other clients
 abbrev pub as_both : Bool → Data → Option Bool
@@ -291,7 +328,7 @@ agreement_of_table time table = do
   _ ← need_only (Name ∷ Agree ∷ Steps ∷ []) table
   Ok (record { groups = groups; least = range.0; most = range.1; twice = twice })
 
--- the tables of groups, unless one is at fault
+-- what replicas agree on by the tables of groups, unless one is at fault
 abbrev pub agreements_in : AnyTime → List Members → Result (List WrittenAgreement) ScenarioFault
 agreements_in time [] = Ok []
 agreements_in time (table ∷ tables) = do
@@ -299,9 +336,63 @@ agreements_in time (table ∷ tables) = do
   agreements ← agreements_in time tables
   Ok (agreement ∷ agreements)
 
+-- the word for groups that are replicated by white box
+abbrev pub accept_word : List ℕ
+accept_word = codes "accept"
+
+-- a table says so of its groups
+abbrev pub is_accepting : Members → Bool
+is_accepting table = option_map_or (bytes_eq accept_word) (option_and_then as_str (get_member (key_word Steps) table)) false
+
+-- groups that are replicated by white box as it is written
+unfoldable pub acceptance_of_table : AnyTime → Members → Result WrittenAcceptance ScenarioFault
+acceptance_of_table time table = do
+  groups ← need Name as_names table
+  replicas ← need Replicas (as_long time) table
+  _ ← need_only (Name ∷ Steps ∷ Replicas ∷ []) table
+  Ok (record { groups = groups; replicas = replicas })
+
+-- the tables of groups, each of which says so, unless one is at fault
+abbrev pub acceptances_in : AnyTime → List Members → Result (List WrittenAcceptance) ScenarioFault
+acceptances_in time [] = Ok []
+acceptances_in time (table ∷ tables) = do
+  acceptance ← acceptance_of_table time table
+  acceptances ← acceptances_in time tables
+  Ok (acceptance ∷ acceptances)
+
 -- the tables of groups of a scenario's table; none where the key is absent
+abbrev pub group_tables : Members → Result (List Members) ScenarioFault
+group_tables table = wish_all Group as_table table >>= λ tables. Ok (unwrap_or tables [])
+
+-- what replicas agree on by the tables of groups of a scenario's table
 abbrev pub agreements_of_table : AnyTime → Members → Result (List WrittenAgreement) ScenarioFault
-agreements_of_table time table = wish_all Group as_table table >>= λ tables. agreements_in time (unwrap_or tables [])
+agreements_of_table time table = group_tables table >>= agreements_in time
+
+-- the groups of which tables say that they are replicated by white box
+abbrev pub accepting_groups : List WrittenAcceptance → List (List ℕ)
+accepting_groups acceptances = flat_map (λ acceptance. acceptance.groups) acceptances
+
+-- each of them is one of the groups, and is named once
+abbrev pub need_accepting : List (List ℕ) → List (List ℕ) → Result (Unit {0}) ScenarioFault
+need_accepting groups accepting =
+    if not (list_all (λ name. is_among name groups) accepting) then Err UnknownGroup
+    else if not (all_differ accepting) then Err DoubleName
+    else Ok tt
+
+-- what the replicas of groups need to agree; where groups may be replicated by white box and one table says so all have to, and there is nothing that they need to
+abbrev pub agreements_unless : Bool → AnyTime → List (List ℕ) → List Members → Result (List WrittenAgreement) ScenarioFault
+agreements_unless accepted time groups tables =
+    if accepted && list_any is_accepting tables
+    then (acceptances_in time tables >>= λ acceptances. need_accepting groups (accepting_groups acceptances) >>= λ _. Ok [])
+    else agreements_in time tables
+
+-- the groups that are replicated by white box by the tables of groups, if one says so; none where one is at fault
+abbrev pub acceptances_told : AnyTime → List Members → List WrittenAcceptance
+acceptances_told time tables = if list_any is_accepting tables then unwrap_or (result_ok (acceptances_in time tables)) [] else []
+
+-- the same of a scenario's table
+abbrev pub acceptances_of_table : Members → List WrittenAcceptance
+acceptances_of_table table = unwrap_or (result_ok (time_of_table table >>= λ time. group_tables table >>= λ tables. Ok (acceptances_told time tables))) []
 
 -- the target that is written in a scenario's table
 abbrev pub written_target : Members → Result WrittenTarget ScenarioFault
@@ -309,8 +400,26 @@ written_target table = do
   target ← need Target as_table table
   message ← need Message as_str target
   group ← need Group as_str target
-  _ ← need_only (Message ∷ Group ∷ []) target
+  _ ← wish Reply as_str target
+  _ ← need_only (Message ∷ Group ∷ Reply ∷ []) target
   Ok (record { message = message; group = group })
+
+-- the word for all groups of a message
+abbrev pub all_groups : List ℕ
+all_groups = codes "*"
+
+-- the first group that a message goes to, or the first of all where it goes to none
+abbrev pub first_group : List (List ℕ) → WrittenMessage → List ℕ
+first_group groups message = slice_index_or message.to 0 (slice_index_or groups 0 [])
+
+-- the first group of the message of that name
+abbrev pub first_group_of : List (List ℕ) → List WrittenMessage → List ℕ → List ℕ
+first_group_of groups messages name = option_map_or (first_group groups) (find (λ message. bytes_eq message.name name) messages) []
+
+-- the target at one group: the first one where it is asked for at all of them
+abbrev pub at_one_group : List (List ℕ) → List WrittenMessage → WrittenTarget → WrittenTarget
+at_one_group groups messages target =
+    if bytes_eq target.group all_groups then record target { group = first_group_of groups messages target.message } else target
 
 -- the first message that is issued at a time that is written, or the first of all where there is none such
 abbrev pub first_known : List WrittenMessage → Option WrittenMessage
@@ -321,22 +430,24 @@ abbrev pub first_target : List (List ℕ) → List WrittenMessage → WrittenTar
 first_target groups messages = of_message (first_known messages) where
   of_message : Option WrittenMessage → WrittenTarget
   of_message None = record { message = []; group = [] }
-  of_message (Some message) = record { message = message.name; group = slice_index_or message.to 0 (slice_index_or groups 0 []) }
+  of_message (Some message) = record { message = message.name; group = first_group groups message }
 
--- the target of a scenario's table: what is written, or the first target where that may be left out and is, or the one that is named beside it
+-- the target of a scenario's table: what is written, or where that may be left out the first target if it is, and one group if all are asked for, or the target that is named beside it
 abbrev pub target_of_table : TargetKey → Members → List (List ℕ) → List WrittenMessage → Result WrittenTarget ScenarioFault
 target_of_table Required table groups messages = written_target table
 target_of_table Optional table groups messages =
-    if is_some (get_member (key_word Target) table) then written_target table else Ok (first_target groups messages)
+    if is_some (get_member (key_word Target) table)
+    then (written_target table >>= λ target. Ok (at_one_group groups messages target))
+    else Ok (first_target groups messages)
 target_of_table (Named message group) table groups messages = Ok (record { message = message; group = group })
 
 -- the places of clients in a scenario's table; none where the key is absent
 abbrev pub places_of_table : Members → Result (List (List ℕ)) ScenarioFault
 places_of_table table = wish_all Places as_str table >>= λ places. Ok (unwrap_or places [])
 
--- the scenario as it is written, but for what the replicas of groups need to agree, whatever else stands in the table
-abbrev pub scenario_of_table : TargetKey → Members → Result WrittenScenario ScenarioFault
-scenario_of_table key table = do
+-- the scenario as it is written, sent as in that case, but for what the replicas of groups need to agree, whatever else stands in the table
+abbrev pub scenario_of_table : Option ℕ → TargetKey → Members → Result WrittenScenario ScenarioFault
+scenario_of_table case key table = do
   time ← time_of_table table
   tick ← wish Tick (as_tick time) table
   delay ← delay_of_table time table
@@ -344,7 +455,7 @@ scenario_of_table key table = do
   groups ← need_all Groups as_str table
   places ← places_of_table table
   tables ← need_all Multicast as_table table
-  messages ← messages_of time tables
+  messages ← messages_of case time tables
   target ← target_of_table key table groups messages
   links ← links_of_table time table
   Ok (record { time = time; tick = tick; delay = delay; least = least; groups = groups; places = places; links = links; agreements = []; messages = messages; target_message = target.message; target_group = target.group })
@@ -368,23 +479,16 @@ pub record Written : Type 0 where
   pub schedule : Option (List ℤ)
   pub order : Option (List ℤ)
 
--- a value is a number below 0
-abbrev pub is_below_zero : Data → Bool
-is_below_zero value = option_map_or (λ number. not (int_le (pos 0) number)) (as_integer value) false
-
--- how long something lasts: a time that is none below 0
-abbrev pub as_long : AnyTime → Data → Option WrittenTime
-as_long time value = if is_below_zero value then None else as_when time value
-
 -- how long the outages last in all through which latencies are told as well, as it is written; none where the key is absent
 abbrev pub outage_of_table : AnyTime → Members → Result (Option WrittenTime) ScenarioFault
 outage_of_table time table = wish Outage (as_long time) table
 
--- what is written in the table, which has no other key, with each message sent by who is written to send it
-abbrev pub shape_of_table : TargetKey → Members → Result Written ScenarioFault
-shape_of_table key table = do
-  scenario ← scenario_of_table key table
-  agreements ← agreements_of_table scenario.time table
+-- what is written in the table, which has no other key, with each message sent by who is written to send it, or in the case that is asked about by who does then
+abbrev pub shape_of_table : Asked → Members → Result Written ScenarioFault
+shape_of_table asked table = do
+  scenario ← scenario_of_table asked.case asked.target table
+  groups ← group_tables table
+  agreements ← agreements_unless asked.accept scenario.time scenario.groups groups
   schedule ← wish_all Schedule as_integer table
   order ← wish_all Order as_integer table
   _ ← outage_of_table scenario.time table

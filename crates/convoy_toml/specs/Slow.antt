@@ -14,6 +14,7 @@ use Rattle.convoy_draft.specs.declared.time.Time.{Time}
 use Rattle.convoy_draft.specs.declared.time.Time.TheVariants.{Ticks, Real}
 use Rattle.convoy_draft.specs.Checks.{is_named_alike, is_within}
 use Rattle.convoy_draft.specs.Durations.{within_longest}
+use Rattle.convoy_toml.specs.declared.asked.Asked.{Asked}
 use Rattle.convoy_toml.specs.declared.target.TargetKey.{TargetKey}
 use Rattle.convoy_toml.specs.declared.written.WrittenRange.{WrittenRange}
 use Rattle.convoy_toml.specs.declared.written.WrittenTime.{WrittenTime}
@@ -180,16 +181,16 @@ without_ranges_of_messages shares scenario =
 abbrev pub need_none_slow : List WrittenMessage → Result (Unit {0}) ScenarioFault
 need_none_slow messages = if list_any is_slow messages then Err (Shape key.Unknown) else Ok tt
 
--- the scenario as it is written, but for what the replicas of groups need to agree, whatever else stands in the table, for texts in which no message has a range of its own
+-- the scenario as it is written, but for what the replicas of groups need to agree, whatever else stands in the table, for texts in which each message has one sender at most and no range of its own
 abbrev pub scenario_without_slow : TargetKey → Members → Result WrittenScenario ScenarioFault
 scenario_without_slow key table = do
-  scenario ← scenario_of_table key table
+  scenario ← scenario_of_table None key table
   _ ← need_none_slow scenario.messages
   Ok scenario
 
 -- what is written in a scenario's table, which has no other key, with each slow message sent from a place of its own
-abbrev pub written_of_table : TargetKey → Members → Result Written ScenarioFault
-written_of_table key table = do
-  written ← shape_of_table key table
+abbrev pub written_of_table : Asked → Members → Result Written ScenarioFault
+written_of_table asked table = do
+  written ← shape_of_table asked table
   scenario ← without_ranges_of_messages (shares_of_table table) written.scenario
   Ok (record written { scenario = scenario })

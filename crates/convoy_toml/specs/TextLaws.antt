@@ -1,6 +1,7 @@
 -- What is proved of scenario texts. Each is the one clause of the function of its name in the crate's module `text_laws`.
 use Rattle.std.specs.Int.{IsGcd}
-use Rattle.std.specs.Prelude.{◌≡◌, ℕ, ℤ, ◌+ℤ◌, List, Option, Some, Ok, IsNone, IsSome, IsTrue, Contains}
+use Rattle.std.specs.Prelude.{◌≡◌, ℕ, ℤ, ◌+ℤ◌, false, List, Option, Some, Ok, IsNone, IsSome, IsTrue, Contains}
+use Rattle.std.specs.Str.{bytes_eq}
 use Rattle.toml.specs.Data.{Members, get_member}
 use Rattle.convoy_draft.specs.declared.fault.Key.TheVariants.{Target}
 use Rattle.convoy_draft.specs.Checks.{leads_elsewhere}
@@ -14,6 +15,7 @@ use Rattle.convoy_toml.specs.declared.asked.Asked.{Asked}
 use Rattle.convoy_toml.specs.Agreements.{Agreement, agreement_at, with_agreements}
 use Rattle.convoy_toml.specs.Around.{span_of}
 use Rattle.convoy_toml.specs.Reading.{of_any_target, table_of_text, input_of_text, input_of_text_by, scenario_of_text_by}
+use Rattle.convoy_toml.specs.Shape.{WrittenTarget, all_groups, written_target}
 use Rattle.convoy_toml.specs.Times.{common_divisor}
 
 -- what a text is read as is a well-formed scenario, whatever is asked beside it
@@ -32,10 +34,11 @@ abbrev pub TextsHaveSpans : Type 0
 TextsHaveSpans =
     (asked : Asked) (text : List ℕ) (scenario : Scenario) (by : Around) → scenario_of_text_by asked text ≡ Ok scenario → asked.around ≡ Some by → HasSpan scenario by
 
--- a text in which the target is written gives the same, whether the target may be left out or not
+-- a text in which a target at one group is written gives the same, whether the target may be left out or not
 abbrev pub TargetsMayBeSaid : Type 0
 TargetsMayBeSaid =
-    (text : List ℕ) (table : Members) → table_of_text text ≡ Ok table → IsSome (get_member (key_word Target) table) → input_of_text_by of_any_target text ≡ input_of_text text
+    (text : List ℕ) (table : Members) (target : WrittenTarget) → table_of_text text ≡ Ok table → IsSome (get_member (key_word Target) table)
+    → written_target table ≡ Ok target → bytes_eq target.group all_groups ≡ false → input_of_text_by of_any_target text ≡ input_of_text text
 
 -- the common divisor of two lengths divides both, and each number that divides both divides it
 abbrev pub CommonDivisorsAreGreatest : Type 0

@@ -16,10 +16,17 @@ pub struct Asked {
     /// How far around the target's issue all other messages are issued, where nothing of that is known: then what the
     /// text says of `at` and `until` is only checked.
     pub around: Option<Around>,
+    /// Which case of the text is asked about, where several senders may send a message ([`cases_of_text`](super::cases_of_text)):
+    /// none where each message has to have one.
+    pub case: Option<u64>,
+    /// Whether groups may be replicated by white box: who asks so tells when their replicas have answered
+    /// ([`acceptances_of_text`](super::acceptances_of_text)), which the scenario that is read does not.
+    pub accept: bool,
 }
 
 impl Asked {
-    /// Nothing: the text has to name its target, and messages have the deadlines and the issue times that it gives them.
+    /// Nothing: the text has to name its target and one sender of each message, messages have the deadlines and the issue times
+    /// that it gives them, and no group is replicated by white box.
     pub fn as_written() -> Asked
         ensures { result ≡ as_written }
     {
@@ -27,6 +34,8 @@ impl Asked {
             target: TargetKey::Required,
             at_most: None,
             around: None,
+            case: None,
+            accept: false,
         }
     }
 
@@ -38,6 +47,8 @@ impl Asked {
             target: TargetKey::Optional,
             at_most: None,
             around: None,
+            case: None,
+            accept: false,
         }
     }
 }

@@ -6,6 +6,7 @@ pub use agreements::{Agreement, with_agreements};
 pub use around::{Around, asked_around, span_asked, span_of};
 pub use asked::Asked;
 pub use bundle::Bundle;
+pub use cases::{MOST_CASES, cases_of_text, targets_of_text};
 pub use copying::{copy_agreements, copy_ends, copy_name, copy_names};
 pub use deadlines::{GREATEST_DEADLINE, deadlines_of_written};
 pub use divisor::common_divisor;
@@ -14,7 +15,11 @@ pub use links::{MOST_WRITTEN_LINKS, links_of_bundle};
 pub use outside::LinkShare;
 pub use placed::{Placed, ScenarioTable};
 pub use plain::PlainNumber;
-pub use read::{outage_of_text, read_table, read_toml, read_toml_asked, scenario_of_written};
+pub use read::{
+    acceptances_of_text, outage_of_text, read_table, read_toml, read_toml_asked,
+    scenario_of_written,
+};
+pub use replies::reply_of_text;
 pub use shape::{scenario_of_table, setting_of_table, time_of_table, unit_of_table};
 pub use share::WHOLE_SHARE;
 pub use slow::{scenario_without_slow, written_of_table};
@@ -22,14 +27,15 @@ pub use target::TargetKey;
 pub use times::{bundles_of, draft_of_written, tick_of};
 pub use ways::{Way, ways_without_link};
 pub use written::{
-    LinkEnds, WrittenAgreement, WrittenInput, WrittenLink, WrittenMulticast, WrittenRange,
-    WrittenScenario, WrittenTarget, WrittenTime,
+    LinkEnds, WrittenAcceptance, WrittenAgreement, WrittenInput, WrittenLink, WrittenMulticast,
+    WrittenRange, WrittenScenario, WrittenTarget, WrittenTime,
 };
 
 mod agreements;
 mod around;
 mod asked;
 mod bundle;
+mod cases;
 mod copying;
 mod deadlines;
 mod divisor;
@@ -40,6 +46,7 @@ mod outside;
 mod placed;
 mod plain;
 mod read;
+mod replies;
 mod shape;
 mod share;
 mod slow;

@@ -3,13 +3,14 @@ ghost use Rattle.std.specs.Result.{result_map_both};
 ghost use Rattle.toml.specs.View.{table_view};
 ghost use Rattle.convoy_draft.specs.declared.fault.ScenarioFault.TheVariants.{Memory};
 ghost use Rattle.convoy_scenario.specs.Memory.{IsUnlessMemory};
-ghost use Rattle.convoy_toml.specs.Reading.{deadlines_of_text, input_of_written, scenario_of_written, table_of_text, input_of_text, input_of_text_by, input_read, outage_in, outage_of_text, scenario_of_text, scenario_of_text_by, scenario_read, shares_of_text, unit_written};
+ghost use Rattle.convoy_toml.specs.Reading.{acceptances_of_text, deadlines_of_text, input_of_written, scenario_of_written, table_of_text, input_of_text, input_of_text_by, input_read, outage_in, outage_of_text, scenario_of_text, scenario_of_text_by, scenario_read, shares_of_text, unit_written};
 ghost use Rattle.convoy_toml.specs.Deadlines.{deadlines_of_written};
 ghost use Rattle.convoy_toml.specs.Reading.{as_written};
 
 use super::around::asked_around;
 use super::asked::Asked;
 use super::deadlines::deadlines_of_written;
+use super::group_tables::acceptances_of_table;
 use super::input::Input;
 use super::outside::{LinkShare, shares_of_table};
 use super::placed::Placed;
@@ -18,7 +19,7 @@ use super::shape::{outage_of_table, time_of_table, unit_of_table};
 use super::slow::written_of_table;
 use super::times::draft_of_written;
 use super::ways::has_ranges;
-use super::written::{WrittenInput, WrittenScenario, WrittenTime};
+use super::written::{WrittenAcceptance, WrittenInput, WrittenScenario, WrittenTime};
 use convoy_scenario::{Scenario, ScenarioFault, TimeUnit};
 use std::alloc::{AllocError, Global};
 use toml::Table;
@@ -78,7 +79,7 @@ fn read_toml_placed(alloc: Global, text: &[u8], asked: &Asked) -> Result<Input, 
     let table = read_table(alloc, text)?;
     let unit = unit_of_table(&table);
     let shares = shares_of_table(alloc, &table)?;
-    let written = written_of_table(alloc, &table, &asked.target)?;
+    let written = written_of_table(alloc, &table, asked)?;
     input_of_written(alloc, asked, unit, shares, written)
 }
 
@@ -95,7 +96,20 @@ pub fn outage_of_text(alloc: Global, text: &[u8]) -> Result<Option<WrittenTime>,
     }
 }
 
-/// The same of the table of a text.
+/// The groups of a scenario text that are replicated by white box, and how far their replicas are, as its tables of groups say
+/// (docs/FORMATS.md, "Groups replicated by white box"); none where they say nothing of that, or the text is at fault
+/// there. Fails where memory runs out, and else never.
+pub fn acceptances_of_text(alloc: Global, text: &[u8]) -> Result<Vec<WrittenAcceptance>, AllocError>
+    ensures { IfOk result (λ acceptances. acceptances.items ≡ acceptances_of_text text.now) }
+{
+    match read_table(alloc, text) {
+        Ok(table) => acceptances_of_table(alloc, &table),
+        Err(ScenarioFault::Memory) => Err(AllocError),
+        Err(_) => Ok(Vec::new(alloc)),
+    }
+}
+
+/// How long outages last by the table of a text.
 fn outage_in(table: &Table) -> Option<WrittenTime>
     ensures { result ≡ outage_in (table_view table.now) }
 {

@@ -1,4 +1,4 @@
-ghost use Rattle.std.specs.Prelude.{◌≡◌, map, is_some, option_map, ok_or};
+ghost use Rattle.std.specs.Prelude.{◌≡◌, map, is_some, option_map, ok_or, IfOk};
 ghost use Rattle.std.specs.List.{list_any};
 ghost use Rattle.std.specs.Str.{bytes_eq};
 ghost use Rattle.std.specs.Result.{result_map_both};
@@ -7,18 +7,19 @@ ghost use Rattle.toml.specs.View.{view, array_view, table_view};
 ghost use Rattle.convoy_draft.specs.Keys.{key_word};
 ghost use Rattle.convoy_scenario.specs.Memory.{IsUnlessMemory};
 ghost use Rattle.convoy_toml.specs.Shares.{outside_word};
-ghost use Rattle.convoy_toml.specs.Shape.{all_of, as_duration, as_when, as_long, is_below_zero, as_tick, as_least, needs_delay, delay_of_table, need, need_all, wish, wish_all, names_in, as_names, as_both, both_of_table, ends_of_table, has_link_words, has_only, is_link_word, need_link_words, need_only, share_of_table, time_of_table, message_of_table, messages_of, link_of_table, links_of, links_of_table, longer_of_table, both_or_none, places_of_table, written_target, target_of_table, scenario_of_table, setting_of_table, shape_of_table, listed, listed_if_there, tables_listed, outage_of_table, stamps_of_table, unit_in, unit_of_table};
+ghost use Rattle.convoy_toml.specs.Shape.{all_of, as_duration, as_when, as_long, is_below_zero, as_tick, as_least, needs_delay, delay_of_table, need, need_all, wish, wish_all, names_in, as_names, case_after, sender_count, sender_in, sender_of_table, as_both, both_of_table, ends_of_table, has_link_words, has_only, is_link_word, need_link_words, need_only, share_of_table, time_of_table, message_of_table, messages_of, link_of_table, links_of, links_of_table, longer_of_table, both_or_none, places_of_table, written_target, target_of_table, scenario_of_table, setting_of_table, shape_of_table, listed, listed_if_there, tables_listed, outage_of_table, stamps_of_table, unit_in, unit_of_table};
 
-use super::group_tables::agreements_of_table;
+use super::asked::Asked;
+use super::group_tables::{agreements_of_table, agreements_unless, group_tables};
 use super::placed::{Placed, ScenarioTable, in_table};
 use super::share::{OUTSIDE, share_told};
-use super::target::{TargetKey, first_target};
+use super::target::{TargetKey, at_one_group, first_target};
 use super::written::{
     LinkEnds, WrittenInput, WrittenLink, WrittenMulticast, WrittenRange, WrittenScenario,
     WrittenTarget, WrittenTime,
 };
 use convoy_scenario::{Duration, Key, Name, ScenarioFault, Time, TimeUnit};
-use std::alloc::Global;
+use std::alloc::{AllocError, Global};
 use toml::value::Array;
 use toml::{Table, Value};
 
@@ -330,16 +331,74 @@ fn longer_of_table(table: &Table, time: Time) -> Result<Option<WrittenRange>, Sc
     both_or_none(least, most)
 }
 
+/// How many may send the message of a table: one where none is named.
+pub(crate) fn sender_count(alloc: Global, table: &Table) -> Result<u64, AllocError>
+    ensures { IfOk result (λ count. count ≡ sender_count (table_view table.now)) }
+{
+    let Some(value) = value_at(table, Key::From) else {
+        return Ok(1);
+    };
+    match names_told(alloc, value, Key::From) {
+        Ok(names) => Ok(names.len() as u64),
+        Err(ScenarioFault::Memory) => Err(AllocError),
+        Err(_) => Ok(1),
+    }
+}
+
+/// Who of several sends in that case.
+fn sender_in(case: u64, names: &[Name]) -> Result<Option<Name>, AllocError>
+    ensures { IfOk result (λ name. name ≡ sender_in case names.now) }
+{
+    if names.is_empty() {
+        return Ok(None);
+    }
+    let place = case % names.len() as u64;
+    match names.get(place as usize) {
+        Some(name) => Ok(Some(name.copy()?)),
+        None => Ok(None),
+    }
+}
+
+/// Who sends the message of a table: where no case is asked about it names one at most, and else the one of that case.
+fn sender_of_table(
+    alloc: Global,
+    table: &Table,
+    case: Option<u64>,
+) -> Result<Option<Name>, ScenarioFault>
+    ensures { IsUnlessMemory ScenarioFault.Memory
+        (sender_of_table case (table_view table.now)) result }
+{
+    let Some(case) = case else {
+        return sender(alloc, table);
+    };
+    match senders(alloc, table)? {
+        Some(names) => Ok(sender_in(case, &names)?),
+        None => Ok(None),
+    }
+}
+
+/// The case of the messages below that of a table.
+fn case_after(alloc: Global, table: &Table, case: Option<u64>) -> Result<Option<u64>, AllocError>
+    ensures { IfOk result (λ after. after ≡ case_after case (table_view table.now)) }
+{
+    let Some(case) = case else {
+        return Ok(None);
+    };
+    let count = sender_count(alloc, table)?;
+    Ok(Some(case.checked_div(count).unwrap_or(0)))
+}
+
 fn multicast_of_table(
     alloc: Global,
     table: &Table,
+    case: Option<u64>,
     time: Time,
 ) -> Result<WrittenMulticast, ScenarioFault>
     ensures { IsUnlessMemory ScenarioFault.Memory
-        (message_of_table time (table_view table.now)) result }
+        (message_of_table case time (table_view table.now)) result }
 {
     let name = name(alloc, table, Key::Name)?;
-    let sender = sender(alloc, table)?;
+    let sender = sender_of_table(alloc, table, case)?;
     let to = names(alloc, table, Key::To)?;
     let at = when(table, Key::At, time)?;
     let until = when_written(table, Key::Until, time)?;
@@ -372,15 +431,18 @@ fn multicast_of_table(
 fn multicasts_of(
     alloc: Global,
     tables: &[&Table],
+    case: Option<u64>,
     time: Time,
 ) -> Result<Vec<WrittenMulticast>, Placed>
     ensures { IsUnlessMemory ScenarioFault.Memory
-        (messages_of time (map (λ t. table_view t.now) tables.now)) (listed result) }
+        (messages_of case time (map (λ t. table_view t.now) tables.now)) (listed result) }
 {
     let mut multicasts = Vec::new(alloc);
+    let mut left = case;
     for table in tables {
         let place = ScenarioTable::Multicast(multicasts.len());
-        multicasts.push(in_table(place, multicast_of_table(alloc, table, time))?)?;
+        multicasts.push(in_table(place, multicast_of_table(alloc, table, left, time))?)?;
+        left = case_after(alloc, table, left)?;
     }
     Ok(multicasts)
 }
@@ -579,6 +641,20 @@ fn places_of_table(alloc: Global, table: &Table) -> Result<Vec<Name>, ScenarioFa
     names_of(alloc, items, Key::Places)
 }
 
+/// The client whose answer is asked for, where the table of a target names one.
+pub(crate) fn reply_of_target(target: &Table) -> Result<Option<&str>, ScenarioFault>
+    ensures { result_map_both (λ client. option_map (λ s. s.now) client) (λ e. e) result
+        ≡ wish Key.Reply as_str (table_view target.now) }
+{
+    match value_at(target, Key::Reply) {
+        Some(value) => {
+            let client = value.as_str().ok_or(ScenarioFault::Shape(Key::Reply))?;
+            Ok(Some(client))
+        }
+        None => Ok(None),
+    }
+}
+
 /// The target that is written in a scenario's table.
 fn written_target(alloc: Global, table: &Table) -> Result<WrittenTarget, Placed>
     ensures { IsUnlessMemory ScenarioFault.Memory (written_target (table_view table.now)) result }
@@ -586,13 +662,14 @@ fn written_target(alloc: Global, table: &Table) -> Result<WrittenTarget, Placed>
     let target = inner_table(table, Key::Target)?;
     let message = in_table(ScenarioTable::Target, name(alloc, target, Key::Message))?;
     let group = in_table(ScenarioTable::Target, name(alloc, target, Key::Group))?;
-    let only = need_only(target, &[Key::Message, Key::Group]);
+    in_table(ScenarioTable::Target, reply_of_target(target))?;
+    let only = need_only(target, &[Key::Message, Key::Group, Key::Reply]);
     in_table(ScenarioTable::Target, only)?;
     Ok(WrittenTarget { message, group })
 }
 
-/// The target of a scenario's table: what is written, or the first target where that may be left out and
-/// is, or the one that is named beside it.
+/// The target of a scenario's table: what is written, or where that may be left out the first target if it is, and one
+/// group if all are asked for, or the target that is named beside it.
 fn target_of_table(
     alloc: Global,
     table: &Table,
@@ -608,10 +685,14 @@ fn target_of_table(
             message: message.copy()?,
             group: group.copy()?,
         }),
+        TargetKey::Required => written_target(alloc, table),
         TargetKey::Optional if value_at(table, Key::Target).is_none() => {
             Ok(first_target(alloc, groups, multicasts)?)
         }
-        TargetKey::Required | TargetKey::Optional => written_target(alloc, table),
+        TargetKey::Optional => {
+            let target = written_target(alloc, table)?;
+            Ok(at_one_group(alloc, groups, multicasts, target)?)
+        }
     }
 }
 
@@ -630,7 +711,7 @@ pub(crate) fn outage_of_table(
 }
 
 /// How long something lasts: a time that is none below 0.
-fn time_lasting(value: &Value, time: Time) -> Option<WrittenTime>
+pub(crate) fn time_lasting(value: &Value, time: Time) -> Option<WrittenTime>
     ensures { result ≡ as_long time (view value.now) }
 {
     if is_below_zero(value) {
@@ -651,17 +732,24 @@ fn is_below_zero(value: &Value) -> bool
 }
 
 /// What is written in a table, in which the target has to be written or not, with each message sent by who is written to
-/// send it; or the first key that is at fault (docs/FORMATS.md, "Scenario text").
+/// send it, or in the case that is asked about by who does then; or the first key that is at fault (docs/FORMATS.md, "Scenario text").
 pub(crate) fn shape_of_table(
     alloc: Global,
     table: &Table,
-    target: &TargetKey,
+    asked: &Asked,
 ) -> Result<WrittenInput, Placed>
     ensures { IsUnlessMemory ScenarioFault.Memory
-        (shape_of_table target.now (table_view table.now)) result }
+        (shape_of_table asked.now (table_view table.now)) result }
 {
-    let mut scenario = scenario_of_table(alloc, table, target)?;
-    scenario.agreements = agreements_of_table(alloc, table, scenario.time)?;
+    let mut scenario = scenario_of_table(alloc, table, asked.case, &asked.target)?;
+    let groups = group_tables(alloc, table)?;
+    scenario.agreements = agreements_unless(
+        alloc,
+        asked.accept,
+        &scenario.groups,
+        &groups,
+        scenario.time,
+    )?;
     let schedule = integers(alloc, table, Key::Schedule)?;
     let order = integers(alloc, table, Key::Order)?;
     outage_of_table(table, scenario.time)?;
@@ -690,15 +778,16 @@ pub(crate) fn shape_of_table(
     })
 }
 
-/// The scenario as it is written in a table, but for what the replicas of groups need to agree, whatever else stands there: of
+/// The scenario as it is written in a table, sent as in that case, but for what the replicas of groups need to agree, whatever else stands there: of
 /// a faulty one the first fault of its shape, with the table that it is of; and `ScenarioFault::Memory` where memory runs out.
 pub fn scenario_of_table(
     alloc: Global,
     table: &Table,
+    case: Option<u64>,
     target: &TargetKey,
 ) -> Result<WrittenScenario, Placed>
     ensures { IsUnlessMemory ScenarioFault.Memory
-        (scenario_of_table target.now (table_view table.now)) result }
+        (scenario_of_table case target.now (table_view table.now)) result }
 {
     let time = time_of_table(table)?;
     let tick = tick_of_table(table, time)?;
@@ -707,7 +796,7 @@ pub fn scenario_of_table(
     let groups = names(alloc, table, Key::Groups)?;
     let places = places_of_table(alloc, table)?;
     let tables = tables(alloc, table, Key::Multicast)?;
-    let multicasts = multicasts_of(alloc, &tables, time)?;
+    let multicasts = multicasts_of(alloc, &tables, case, time)?;
     let target = target_of_table(alloc, table, target, &groups, &multicasts)?;
     let links = links_of_table(alloc, table, time)?;
     Ok(WrittenScenario {

@@ -11,6 +11,7 @@ ghost use Rattle.convoy_toml.specs.Shape.{listed};
 ghost use Rattle.convoy_toml.specs.Slow.{bundle_between, counts_together, durations_together, from_own_place, has_link_along, is_slow, is_up_to, least_in, lengthened_range, link_from_place, need_few, links_of_message, links_of_messages, need_no_shares, need_none_slow, need_range, own_link, own_links, own_place, range_along, range_of_links, range_without_link, ranges_together, scenario_without_slow, times_together, with_own_places, without_ranges_of_messages, written_of_table};
 
 use super::agreements::together;
+use super::asked::Asked;
 use super::bundle::Bundle;
 use super::copying::{copy_ends, copy_name};
 use super::links::{are_few, links_of_bundle};
@@ -28,19 +29,16 @@ use std::alloc::{AllocError, Global};
 use toml::Table;
 
 /// What is written in a table, in which the target has to be written or not, with each slow message sent from a place of
-/// its own; or the first key that is at fault (docs/FORMATS.md, "Scenario text").
-pub fn written_of_table(
-    alloc: Global,
-    table: &Table,
-    target: &TargetKey,
-) -> Result<WrittenInput, Placed>
-    ensures { IsUnlessMemory Memory (written_of_table target.now (table_view table.now)) result }
+/// its own, and where a case is asked about each message sent as in that; or the first key that is at fault
+/// (docs/FORMATS.md, "Scenario text").
+pub fn written_of_table(alloc: Global, table: &Table, asked: &Asked) -> Result<WrittenInput, Placed>
+    ensures { IsUnlessMemory Memory (written_of_table asked.now (table_view table.now)) result }
 {
     let WrittenInput {
         scenario,
         schedule,
         order,
-    } = shape_of_table(alloc, table, target)?;
+    } = shape_of_table(alloc, table, asked)?;
     let scenario = without_ranges_of_messages(alloc, table, scenario)?;
     Ok(WrittenInput {
         scenario,
@@ -67,7 +65,7 @@ fn without_ranges_of_messages(
 }
 
 /// The scenario as it is written in a table, but for what the replicas of groups need to agree, whatever else stands there,
-/// for texts in which no message has a range of its own: of a faulty one the first fault, with the table that it is of; and
+/// for texts in which each message has one sender at most and no range of its own: of a faulty one the first fault, with the table that it is of; and
 /// `ScenarioFault::Memory` where memory runs out.
 pub fn scenario_without_slow(
     alloc: Global,
@@ -76,7 +74,7 @@ pub fn scenario_without_slow(
 ) -> Result<WrittenScenario, Placed>
     ensures { IsUnlessMemory Memory (scenario_without_slow target.now (table_view table.now)) result }
 {
-    let scenario = scenario_of_table(alloc, table, target)?;
+    let scenario = scenario_of_table(alloc, table, None, target)?;
     need_none_slow(&scenario.multicasts)?;
     Ok(scenario)
 }
@@ -294,7 +292,7 @@ fn link_from_place(
 
 /// The range of what goes that way: that of a link, or of what goes by none; nothing from a group to itself, which takes
 /// no time.
-fn range_along(
+pub(crate) fn range_along(
     alloc: Global,
     scenario: &WrittenScenario,
     way: &Way,

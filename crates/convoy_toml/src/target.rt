@@ -1,5 +1,6 @@
 ghost use Rattle.std.specs.Prelude.{◌≡◌, [], slice_index_or, find, is_none, option_copied, IfOk};
-ghost use Rattle.convoy_toml.specs.Shape.{first_known, first_target};
+ghost use Rattle.std.specs.Str.{bytes_eq};
+ghost use Rattle.convoy_toml.specs.Shape.{at_one_group, first_group_of, first_known, first_target};
 
 use super::written::{WrittenMulticast, WrittenTarget};
 use convoy_scenario::Name;
@@ -36,6 +37,50 @@ pub fn first_target(
             group: Name::new(alloc, "")?,
         }),
     }
+}
+
+/// The word for all groups of a message.
+pub const ALL_GROUPS: &str = "*";
+
+/// The target at one group: the first one where it is asked for at all of them.
+pub(crate) fn at_one_group(
+    alloc: Global,
+    groups: &[Name],
+    multicasts: &[WrittenMulticast],
+    target: WrittenTarget,
+) -> Result<WrittenTarget, AllocError>
+    ensures { IfOk result (λ one. one ≡ at_one_group groups.now multicasts.now target) }
+{
+    if target.group.as_str() != ALL_GROUPS {
+        return Ok(target);
+    }
+    let group = first_group_of(alloc, groups, multicasts, &target.message)?;
+    Ok(WrittenTarget { group, ..target })
+}
+
+/// The first group of the message of that name.
+fn first_group_of(
+    alloc: Global,
+    groups: &[Name],
+    multicasts: &[WrittenMulticast],
+    name: &Name,
+) -> Result<Name, AllocError>
+    ensures { IfOk result (λ group. group ≡ first_group_of groups.now multicasts.now name.now) }
+{
+    match message_named(multicasts, name) {
+        Some(multicast) => first_of(alloc, &multicast.to, groups),
+        None => Name::new(alloc, ""),
+    }
+}
+
+/// The first message of that name.
+pub(crate) fn message_named<'a>(
+    multicasts: &'a [WrittenMulticast],
+    name: &Name,
+) -> Option<&'a WrittenMulticast>
+    ensures { option_copied result ≡ find (λ m. bytes_eq m.name name.now) multicasts.now }
+{
+    multicasts.iter().find(|m| m.name.is_same(name))
 }
 
 /// The first message that is issued at a time that is written, or the first of all where there is none

@@ -19,7 +19,7 @@ pub fn texts_have_spans()
     ensures { TextsHaveSpans }
 {}
 
-/// A text in which the target is written gives the same, whether the target may be left out or not.
+/// A text in which a target at one group is written gives the same, whether the target may be left out or not.
 pub fn targets_may_be_said()
     ensures { TargetsMayBeSaid }
 {}

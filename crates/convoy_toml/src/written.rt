@@ -1,5 +1,5 @@
 ghost use Rattle.std.specs.Prelude.{option_map};
-ghost use Rattle.convoy_toml.specs.Shape.{WrittenMessage, LinkEnds, WrittenLink, WrittenAgreement, WrittenTarget, WrittenScenario, Written};
+ghost use Rattle.convoy_toml.specs.Shape.{WrittenMessage, LinkEnds, WrittenLink, WrittenAcceptance, WrittenAgreement, WrittenTarget, WrittenScenario, Written};
 
 use convoy_scenario::{Duration, Name, Time};
 use std::marker::Model;
@@ -97,6 +97,21 @@ impl Model for WrittenAgreement {
     ghost Value = { WrittenAgreement };
 
     ghost view = { λ a. record { groups = a.groups.items; least = a.least; most = a.most; twice = a.twice } };
+}
+
+/// Groups that are replicated by white box as it is written.
+#[derive(Drop)]
+pub struct WrittenAcceptance {
+    /// The groups.
+    pub groups: Vec<Name>,
+    /// What a packet between the leader of one of them and its replicas takes at most.
+    pub replicas: WrittenTime,
+}
+
+impl Model for WrittenAcceptance {
+    ghost Value = { WrittenAcceptance };
+
+    ghost view = { λ a. record { groups = a.groups.items; replicas = a.replicas } };
 }
 
 /// A target as it is written.

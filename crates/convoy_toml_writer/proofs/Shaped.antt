@@ -19,10 +19,10 @@ use Rattle.convoy_scenario.specs.Scenario.{Link as ScenarioLink, Message, Scenar
 use Rattle.convoy_packets.specs.Assignment.{Schedule as ScenarioSchedule}
 use Rattle.convoy_packets.specs.Order.{Order as ScenarioOrder}
 use Rattle.convoy_packets.specs.OrderLists.{is_no_order, ranks_of}
-use Rattle.convoy_toml.specs.declared.target.TargetKey.TheVariants.{Required}
 use Rattle.convoy_toml.specs.declared.written.WrittenTime.{WrittenTime}
 use Rattle.convoy_toml.specs.declared.written.WrittenTime.TheVariants.{Count}
 use Rattle.convoy_toml.specs.Shape.{all_of, need, need_all, wish, wish_all, has_only, time_of_table, as_time, as_tick, as_when, delay_of_table, needs_delay, as_least, LinkEnds, WrittenMessage, WrittenLink, WrittenScenario, WrittenTarget, message_of_table, messages_of, link_of_table, links_of, places_of_table, written_target}
+use Rattle.convoy_toml.specs.Reading.{as_written}
 use Rattle.convoy_toml.specs.Slow.{is_slow, written_of_table}
 use Rattle.convoy_toml_writer.specs.WrittenTextLaws.{ranks_for}
 use Rattle.convoy_toml_writer.proofs.Document.{number, names_data, stamps_data, until_data, some_tables, time_data, least_data, tick_data, order_data, places_data, head_of, link_row, message_row, link_table, message_table, target_table, document_table}
@@ -88,17 +88,17 @@ written_link scenario link = record {
   stamps = link.stamps;
 }
 
-message_shaped : (time : AnyTime) (scenario : Scenario) (message : Message) → message_of_table time (message_table scenario message) ≡ Ok (written_message scenario message)
+message_shaped : (time : AnyTime) (scenario : Scenario) (message : Message) → message_of_table None time (message_table scenario message) ≡ Ok (written_message scenario message)
 message_shaped time scenario message = by_sender (sender_name scenario message.sender) where
   to_given : all_of as_str (items_of (map string (map (group_name_at scenario) message.destinations))) ≡ Some (map (group_name_at scenario) message.destinations)
   to_given = strings_given (map (group_name_at scenario) message.destinations)
 
-  by_sender : (sender : Option (List ℕ)) → message_of_table time (message_row (number message.at) (option_map string sender) (string message.name) (names_data scenario message.destinations) (until_data message))
+  by_sender : (sender : Option (List ℕ)) → message_of_table None time (message_row (number message.at) (option_map string sender) (string message.name) (names_data scenario message.destinations) (until_data message))
       ≡ Ok (record (written_message scenario message) { sender = sender })
   by_sender None = elim (cases_Bool (may_wait message)) [ inl waits ↦ rw (waits, to_given) refl | inr known ↦ rw (known, to_given) refl ]
   by_sender (Some name) = elim (cases_Bool (may_wait message)) [ inl waits ↦ rw (waits, to_given) refl | inr known ↦ rw (known, to_given) refl ]
 
-messages_shaped : (time : AnyTime) (scenario : Scenario) (messages : List Message) → messages_of time (map (message_table scenario) messages) ≡ Ok (map (written_message scenario) messages)
+messages_shaped : (time : AnyTime) (scenario : Scenario) (messages : List Message) → messages_of None time (map (message_table scenario) messages) ≡ Ok (map (written_message scenario) messages)
 messages_shaped time scenario [] = refl
 messages_shaped time scenario (m ∷ ms) = rw (message_shaped time scenario m, messages_shaped time scenario ms) refl
 
@@ -196,18 +196,18 @@ written_scenario scenario = record {
 -- step by step, from what each key gives
 in_steps : (rows : Members) (scenario : WrittenScenario) (message_rows : List Members) (target : WrittenTarget) (schedule order : Option (List ℤ)) (rows_of_links : Option (List Members))
     → time_of_table rows ≡ Ok scenario.time → wish Tick (as_tick scenario.time) rows ≡ Ok scenario.tick → delay_of_table scenario.time rows ≡ Ok scenario.delay → wish Least (as_least scenario.time) rows ≡ Ok scenario.least → need_all Groups as_str rows ≡ Ok scenario.groups → places_of_table rows ≡ Ok scenario.places
-    → need_all Multicast as_table rows ≡ Ok message_rows → messages_of scenario.time message_rows ≡ Ok scenario.messages → written_target rows ≡ Ok target
+    → need_all Multicast as_table rows ≡ Ok message_rows → messages_of None scenario.time message_rows ≡ Ok scenario.messages → written_target rows ≡ Ok target
     → wish_all Link as_table rows ≡ Ok rows_of_links → links_of scenario.time (unwrap_or rows_of_links []) ≡ Ok scenario.links
     → get_member (codes "group") rows ≡ None → get_member (codes "outage") rows ≡ None
     → wish_all Schedule as_integer rows ≡ Ok schedule → wish_all Order as_integer rows ≡ Ok order → has_only (Time ∷ Tick ∷ Delay ∷ Least ∷ Groups ∷ Places ∷ Multicast ∷ Target ∷ Link ∷ key.Group ∷ key.Outage ∷ Schedule ∷ Order ∷ []) rows ≡ true
     → target.message ≡ scenario.target_message → target.group ≡ scenario.target_group → list_any is_slow scenario.messages ≡ false
-    → written_of_table Required rows ≡ Ok (record { scenario = record scenario { agreements = [] }; schedule = schedule; order = order })
+    → written_of_table as_written rows ≡ Ok (record { scenario = record scenario { agreements = [] }; schedule = schedule; order = order })
 in_steps rows scenario message_rows target schedule order rows_of_links time tick delay least groups places tables_there messages target_there links_there links no_groups no_outage scheduled ordered known named at_group quick =
     rw (time, tick, delay, least, groups, places, tables_there, messages, target_there, links_there, links, no_groups, scheduled, ordered, no_outage, known, named, at_group, quick) refl
 
 -- what is written in the document's table
 pub document_shaped : (scenario : Scenario) (schedule : ScenarioSchedule) (first_message : Message) (others : List Message) → scenario.multicasts ≡ first_message ∷ others → IfSome scenario.tick (IsReadable scenario.time)
-    → written_of_table Required (document_table scenario schedule) ≡ Ok (record { scenario = written_scenario scenario; schedule = Some (map pos schedule.delays); order = ranks_for scenario schedule.order })
+    → written_of_table as_written (document_table scenario schedule) ≡ Ok (record { scenario = written_scenario scenario; schedule = Some (map pos schedule.delays); order = ranks_for scenario schedule.order })
 document_shaped scenario schedule first_message others some tick =
     let head = head_of scenario schedule in
     let links = map (link_table scenario) scenario.links in

@@ -8,7 +8,7 @@ returns-then-branch-clause-no_sooner c =
 
 pub returns-clause-between : goal.returns-clause-between
 returns-clause-between c =
-    between c.args.instance.now c.args.replicas c.in_ok-_schedule.least c.in_ok-most.most _ (rw c.scenario.ensures.value at c.in_ok-ways.ensures)
+    between c.args.instance.now c.args.replicas.now c.in_ok-_schedule.least c.in_ok-most.most _ (rw c.scenario.ensures.value at c.in_ok-ways.ensures)
     (reached_by c.latest_finishes.ensures c.args.instance.now _ c.in_ok-_schedule._schedule c.in_ok-_schedule.least c.scenario.ensures.lawful
     c.in_ok-_schedule.ensures.assignment c.in_ok-_schedule.ensures.latency)
     c.in_ok-most.ensures.holds

@@ -6,5 +6,5 @@ use Rattle.convoy_toml.proofs.shape.multicasts_of.Given as goal
 
 abbrev pub invariant-loop-table : goal.invariant-loop-table
 invariant-loop-table l =
-    messages_of l.time (map (λ t. table_view t.now) l.tables)
-    ≡ (messages_of l.time (map (λ t. table_view t.now) (drop l.table-index l.tables)) >>= λ rest. Ok (l.multicasts.items ++ rest))
+    messages_of l.fn.case l.time (map (λ t. table_view t.now) l.tables)
+    ≡ (messages_of l.left l.time (map (λ t. table_view t.now) (drop l.table-index l.tables)) >>= λ rest. Ok (l.multicasts.items ++ rest))
