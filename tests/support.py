@@ -13,7 +13,7 @@ from program import ROOT, program
 PROGRAM = program()
 # A run that takes more seconds than this hangs.
 PATIENCE = 60
-# The examples that `latency` alone reads: a message of the one has several senders, and groups of the other are replicated by white box.
+# The examples that few commands read: a message of the one has several senders, and groups of the other are replicated by white box.
 OF_LATENCY = ("any-client.toml", "white-box.toml")
 
 

@@ -4,7 +4,7 @@ use Rattle.std.specs.Result.{result_map_both}
 use Rattle.convoy_streams.specs.Devices.{Answer, HasRun}
 use Rattle.convoy_streams.specs.Writes.{WritesAll, FailsWithin}
 use Rattle.convoy_commands.specs.declared.done.Done.{Done}
-use Rattle.convoy_commands.specs.declared.done.Done.TheVariants.{Fine, Open, Beyond, Faulty, Refused, PlanRefused, WorkflowRefused, Differs, Departs, NotChecked}
+use Rattle.convoy_commands.specs.declared.done.Done.TheVariants.{Fine, Open, Beyond, Faulty, Refused, PlanRefused, WorkflowRefused, FinishRefused, Differs, Departs, NotChecked}
 use Rattle.convoy_commands.specs.declared.fault.Fault.{Fault}
 use Rattle.convoy_commands.specs.declared.fault.Fault.TheVariants as faults
 use Rattle.convoy_commands.specs.Faults.{fault_line_of}
@@ -13,7 +13,7 @@ use Rattle.convoy_batches.specs.Batches.{IsBatchRun}
 use Rattle.convoy_task_list.specs.declared.task.Task.{Task}
 use Rattle.convoy_task_list.specs.declared.task.Task.TheVariants.{BatchTable}
 use Rattle.convoy_workflow_replies.specs.declared.reference.Reference.{Reference}
-use Rattle.convoy_tasks.specs.WantedReads.{IsReferenceRead, takes_workflow}
+use Rattle.convoy_tasks.specs.WantedReads.{IsReferenceRead, takes_others}
 use Rattle.convoy_tasks.specs.Runs.{IsRun}
 use Rattle.convoy_tasks.specs.Tasks.{longest_for, task_says}
 use Rattle.convoy_arguments.specs.declared.input.Input.{Input}
@@ -31,6 +31,7 @@ status_of_done Faulty = 1
 status_of_done (Refused refusal) = 4
 status_of_done PlanRefused = 4
 status_of_done WorkflowRefused = 4
+status_of_done FinishRefused = 4
 status_of_done (Differs part) = 4
 status_of_done Departs = 7
 status_of_done NotChecked = 6
@@ -61,7 +62,7 @@ abbrev pub IsWantedRead : {S : Type 0} → (S → Answer → S → Type 0) → T
 IsWantedRead may_read task None other new_other read = (new_other ≡ other) × (read ≡ Ok None)
 IsWantedRead may_read task (Some input) other new_other read =
     (found : Result Reference Fault)
-    × IsReferenceRead (takes_workflow task) MOST_READS may_read other new_other found
+    × IsReferenceRead (takes_others task) MOST_READS may_read other new_other found
     × (read ≡ result_map_both (λ reference. Some reference) (λ fault. fault) found)
 
 -- THE RUN OF A TASK. From the old states of the sources and the sink to the new ones a text is read and answered by the task's rule, for the scenario or the workflow that was read first from the other source, where an input is named for it; if that has a fault, the run ends with it.

@@ -41,9 +41,11 @@ fn status_of_done(done: Done) -> u8
         Done::Open => OPEN,
         Done::Beyond => BEYOND,
         Done::Faulty => FAULT,
-        Done::Refused(_) | Done::PlanRefused | Done::WorkflowRefused | Done::Differs(_) => {
-            REFUSED
-        },
+        Done::Refused(_)
+        | Done::PlanRefused
+        | Done::WorkflowRefused
+        | Done::FinishRefused
+        | Done::Differs(_) => { REFUSED },
         Done::Departs => DEPARTS,
         Done::NotChecked => NOT_CHECKED,
     }

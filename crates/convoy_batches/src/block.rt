@@ -104,6 +104,7 @@ fn end_of_answer(done: Done) -> Done
         | Done::Refused(_)
         | Done::PlanRefused
         | Done::WorkflowRefused
+        | Done::FinishRefused
         | Done::Differs(_)
         | Done::Departs
         | Done::NotChecked => Done::Faulty,

@@ -1,5 +1,5 @@
 -- What is found of a case.
-use Rattle.std.specs.Prelude.{Vec, ◌≡◌, ◌⊎◌, ℕ, ◌+◌, ◌<◌, Bool, true, false, List, length, map, Option, Some, None, unwrap_or, Result, Ok, Err}
+use Rattle.std.specs.Prelude.{Vec, ◌≡◌, ◌⊎◌, ℕ, ◌+◌, ◌<◌, ◌≤◌, Bool, true, false, List, length, map, Option, Some, None, unwrap_or, Result, Ok, Err}
 use Rattle.std.specs.declared.alloc.Global.{Global}
 use Rattle.std.specs.List.{All, range_with_len, slice_get}
 use Rattle.convoy_draft.specs.declared.fault.ScenarioFault.{ScenarioFault}
@@ -11,12 +11,14 @@ use Rattle.convoy_toml.specs.declared.asked.Asked.{Asked}
 use Rattle.convoy_toml.specs.declared.written.WrittenTime.{WrittenTime}
 use Rattle.convoy_toml.specs.Reading.{acceptances_of_text, scenario_of_text_by}
 use Rattle.convoy_toml.specs.Replies.{reply_of_text}
+use Rattle.convoy_outages.specs.declared.outage.Outage.{Outage}
 use Rattle.convoy_outages.specs.declared.outage.OutageFault.TheVariants.{TooLong}
 use Rattle.convoy_replicas.specs.declared.replicas.ReplicaFault.{ReplicaFault}
 use Rattle.convoy_replicas.specs.Replicas.{replica_ticks, replicas_of}
 use Rattle.convoy_outage_runs.specs.OutageRuns.{IsUpperOfRuns}
-use Rattle.convoy_outage_answers.specs.Latencies.{LastsFor}
+use Rattle.convoy_outage_answers.specs.Latencies.{LastsFor, outage_ceiling_of}
 use Rattle.convoy_finish_answers.specs.AcceptedLatencies.{IsFinishBetween}
+use Rattle.convoy_finish_answers.specs.AcceptedTexts.{AreReplicasRefused}
 use Rattle.convoy_branch.specs.Options.{Settings}
 use Rattle.convoy_branch.specs.Outcomes.{best_of}
 use Rattle.convoy_branch.specs.declared.outcome.Outcome.{Outcome}
@@ -43,18 +45,25 @@ abbrev pub is_proved : Outcome → Bool
 is_proved (Proved certificate tickets by_worker) = true
 is_proved (Open best upper tickets by_worker) = false
 
--- Some run of the scenario in which replicas so far from their leaders answer delivers its target after `least` ticks, and none after more than `most`.
-pub record IsAnsweredBetween (span : Option WrittenTime) (text : List ℕ) (scenario : Scenario) (least most : ℕ) : Type 0 where
+-- Some run of the scenario in which replicas so far from their leaders answer delivers its target after `least` ticks, and none after more than `most`; and it is no sooner than what the search found without replicas.
+pub record IsAnsweredBetween (span : Option WrittenTime) (text : List ℕ) (scenario : Scenario) (found least most : ℕ) : Type 0 where
   pub replicas : List ℕ
   pub spanning : replicas_of span (acceptances_of_text text) scenario ≡ Ok replicas
   pub between : IsFinishBetween scenario replicas least most
+  pub no_sooner : found ≤ least
+
+-- No run through outages that last so long in all delivers its target after more than `most` ticks, and that is none above the ceiling through them.
+pub record IsLateThrough (outage : Outage) (scenario : Scenario) (most : ℕ) : Type 0 where
+  pub span : ℕ
+  pub lasting : LastsFor outage scenario span
+  pub safe : IsUpperOfRuns span scenario most
+  pub low : most ≤ outage_ceiling_of span scenario
 
 -- the latency with what keeps the target back is between these numbers, where that without it is at least so great: of outages there is a number that none exceeds
 abbrev pub IsLate : Late → List ℕ → Scenario → ℕ → ℕ → ℕ → ℕ → Type 0
 IsLate lates.Nothing text scenario least most late_least late_most = (late_least ≡ least) × (late_most ≡ most)
-IsLate (lates.Outages outage) text scenario least most late_least late_most =
-    (late_least ≡ least) × (span : ℕ) × LastsFor outage scenario span × IsUpperOfRuns span scenario late_most
-IsLate (lates.Answers span) text scenario least most late_least late_most = IsAnsweredBetween span text scenario late_least late_most
+IsLate (lates.Outages outage) text scenario least most late_least late_most = (late_least ≡ least) × IsLateThrough outage scenario late_most
+IsLate (lates.Answers span) text scenario least most late_least late_most = IsAnsweredBetween span text scenario least late_least late_most
 
 -- how many ticks of the scenario a word takes that takes so long, where it takes some time
 abbrev pub way_of : Scenario → Option WrittenTime → Result (Option ℕ) ReplicaFault
@@ -92,14 +101,6 @@ pub record IsFoundAmong (late : Late) (asked : List Asked) (settings : Settings)
   pub case : Asked
   pub there : slice_get asked found.number ≡ Some case
   pub is : IsFound late case settings text found
-
--- The scenario was read, and it can't be told how many of its ticks replicas are from their leaders.
-pub record AreReplicasRefused (span : Option WrittenTime) (asked : Asked) (text : List ℕ) (fault : Fault) : Type 0 where
-  pub scenario : Scenario
-  pub read : scenario_of_text_by asked text ≡ Ok scenario
-  pub cause : ReplicaFault
-  pub refused : replicas_of span (acceptances_of_text text) scenario ≡ Err cause
-  pub told : fault ≡ faults.Replicas cause
 
 -- what keeps its target back can't be told in its ticks
 abbrev pub IsLateRefused : Late → Asked → List ℕ → Fault → Type 0

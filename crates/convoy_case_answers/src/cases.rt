@@ -12,26 +12,10 @@ pub(crate) fn first_asked(late: &Late, asked: &Asked) -> Result<Asked, AllocErro
     ensures { IfOk result (λ first. first ≡ first_asked late.now asked.now) }
 {
     Ok(Asked {
-        target: copy_target(&asked.target)?,
-        at_most: asked.at_most,
-        around: asked.around,
         case: Some(0),
         accept: late.accepts(),
+        ..asked.copy()?
     })
-}
-
-/// The same target.
-fn copy_target(target: &TargetKey) -> Result<TargetKey, AllocError>
-    ensures { IfOk result (λ copy. copy ≡ target.now) }
-{
-    match target {
-        TargetKey::Required => Ok(TargetKey::Required),
-        TargetKey::Optional => Ok(TargetKey::Optional),
-        TargetKey::Named { message, group } => Ok(TargetKey::Named {
-            message: message.copy()?,
-            group: group.copy()?,
-        }),
-    }
 }
 
 /// So many cases at each of the targets.

@@ -3,7 +3,7 @@ use Rattle.std.proofs.Common.{inl, inr, refl, ℕ, List, Option, Ok}
 use Rattle.convoy_draft.specs.declared.duration.TimeUnit.{TimeUnit}
 use Rattle.convoy_commands.specs.declared.asking.Asking.TheVariants.{Explain}
 use Rattle.convoy_commands.specs.declared.done.Done.{Done}
-use Rattle.convoy_commands.specs.declared.done.Done.TheVariants.{Fine, Open, Beyond, Faulty, Refused, PlanRefused, WorkflowRefused, Differs, Departs, NotChecked}
+use Rattle.convoy_commands.specs.declared.done.Done.TheVariants.{Fine, Open, Beyond, Faulty, Refused, PlanRefused, WorkflowRefused, FinishRefused, Differs, Departs, NotChecked}
 use Rattle.convoy_commands.specs.Replies.{Rule, SaysUnlessMemory}
 use Rattle.convoy_commands.specs.WithCeilings.{ExplainWithCeilingSays}
 use Rattle.convoy_commands.proofs.WithinTexts.{AllowsOthers}
@@ -22,6 +22,7 @@ as_explained asked text out Faulty not says = says
 as_explained asked text out (Refused refusal) not says = says
 as_explained asked text out PlanRefused not says = says
 as_explained asked text out WorkflowRefused not says = says
+as_explained asked text out FinishRefused not says = says
 as_explained asked text out (Differs part) not says = says
 as_explained asked text out Departs not says = says
 as_explained asked text out NotChecked not says = says

@@ -23,6 +23,8 @@ pub enum Done {
     PlanRefused,
     /// The text is not that of a valid certificate of a workflow.
     WorkflowRefused,
+    /// The text is not that of a valid certificate of finishes.
+    FinishRefused,
     /// The certificate is valid, but its scenario differs from the one that is wanted, first in this part.
     Differs(Part),
     /// The trace is no run of the scenario: something in it departs from that.

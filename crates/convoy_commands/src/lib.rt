@@ -18,6 +18,7 @@ pub use first::first_answer;
 pub use latency::latency_answer;
 pub use limits::{DEFAULT_STEPS, LONGEST_CERTIFICATE, LONGEST_JOB, MOST_STEPS};
 pub use ranging::ranges_answer;
+pub use refusal::text_fault_line;
 pub use reply_lines::{push_ceiling, push_open, push_outside, push_ticks_line, push_verdict};
 pub use search::search_instance;
 pub use telling::{Telling, tell};

@@ -16,14 +16,15 @@ pub(crate) fn refusal_line(refusal: Refusal, out: &mut Vec<u8>) -> Result<(), Al
 {
     let alloc = *out.allocator();
     let line = match refusal {
-        Refusal::Text(fault) => line_of_text(alloc, fault)?,
+        Refusal::Text(fault) => text_fault_line(alloc, fault)?,
         Refusal::Check(fault) => line_of_check(alloc, fault)?,
     };
     out.extend_from_slice(line.as_bytes())
 }
 
-/// The line of a fault of the certificate's text.
-fn line_of_text(alloc: Global, fault: TextFault) -> Result<String, AllocError>
+/// The line that tells of a fault of a certificate's text: `refused`, its number, its text, and byte 10 (docs/FORMATS.md,
+/// "Refusals"). Fails where memory runs out, and else never.
+pub fn text_fault_line(alloc: Global, fault: TextFault) -> Result<String, AllocError>
     ensures { IfOk result (λ line. string_bytes line ≡ refused_line (row_of_text fault)) }
 {
     match fault {

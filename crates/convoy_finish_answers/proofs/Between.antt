@@ -7,7 +7,9 @@ use Rattle.convoy_sim.specs.Times.{issue}
 use Rattle.convoy_finishes.specs.FinishLaws.{LatestFinishes}
 use Rattle.convoy_finishes.specs.Finishes.{IsFinishReached, IsUpperOfFinishes, finish_latency}
 use Rattle.convoy_finishes.specs.WhiteBox.{white_box_ways}
+use Rattle.convoy_finish_answers.specs.declared.finishing.SoughtFinish.{SoughtFinish}
 use Rattle.convoy_finish_answers.specs.AcceptedLatencies.{IsFinishBetween}
+use Rattle.convoy_finish_answers.specs.FinishProofs.{IsSought}
 
 -- what some run has is no greater than what none exceeds
 reached_is_below : (scenario : Scenario) (ways : List ℕ) (least most : ℕ) → IsFinishReached scenario ways least → IsUpperOfFinishes scenario ways most → least ≤ most
@@ -35,3 +37,13 @@ pub reached_by : LatestFinishes → (scenario : Scenario) (ways : List ℕ) (sch
     latency ≡ finish_latency scenario ways schedule → IsFinishReached scenario ways latency
 reached_by law scenario ways schedule latency lawful assigned is =
     subst (IsFinishReached scenario ways) (sym is) (schedule, assigned, (law scenario schedule ways lawful).0)
+
+-- so what was sought is known, once the schedule is an assignment with that finish latency, and none exceeds the other number
+pub sought_by : LatestFinishes → (scenario : Scenario) (ways : List ℕ) (sought : SoughtFinish) → IsScenario scenario → IsAssignment scenario sought.schedule →
+    sought.least ≡ finish_latency scenario ways sought.schedule → IsUpperOfFinishes scenario ways sought.most → IsSought scenario ways sought
+sought_by law scenario ways sought lawful assigned is safe = record {
+  assigned = assigned;
+  latency = is;
+  reached = reached_by law scenario ways sought.schedule sought.least lawful assigned is;
+  safe = safe;
+}

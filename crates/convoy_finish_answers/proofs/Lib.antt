@@ -1,3 +1,4 @@
 pub mod NoSooner
 pub mod Between
 pub mod Ended
+mod Proved

@@ -4,6 +4,7 @@ ghost use Rattle.std.specs.Prelude.{◌≤◌, IfOk};
 ghost use Rattle.convoy_packets.specs.Assignment.{IsAssignment};
 ghost use Rattle.convoy_sim.specs.Delivery.{latency_of};
 ghost use Rattle.convoy_finish_answers.specs.AcceptedLatencies.{IsFinishBetween};
+ghost use Rattle.convoy_finish_answers.specs.FinishProofs.{IsSought};
 
 use convoy_finishes::finish_laws::latest_finishes;
 use convoy_finishes::{Ways, climb_finishes, closes_finishing, finish_latency, least_closed};
@@ -16,6 +17,17 @@ use std::alloc::{AllocError, Global};
 #[derive(Clone, Copy)]
 pub struct FinishLatency {
     pub least: u32,
+    pub most: u32,
+}
+
+/// A run in which messages are finished late, and what none exceeds, in ticks.
+#[derive(Drop)]
+pub(crate) struct SoughtFinish {
+    /// The schedule of the run.
+    pub schedule: Schedule,
+    /// Its latency.
+    pub least: u32,
+    /// A latency that no run exceeds.
     pub most: u32,
 }
 
@@ -36,17 +48,43 @@ pub fn finish_between(
     ensures between { IfOk result (λ found. IsFinishBetween instance.now replicas.now found.least found.most) }
     ensures no_sooner { IfOk result (λ found. latency_of instance.now start ≤ found.least) }
 {
+    let ways = Ways::white_box(alloc, instance.scenario(), replicas)?;
+    let sought = seek_finish(alloc, instance, &ways, start, steps)?;
+    Ok(FinishLatency {
+        least: sought.least,
+        most: sought.most,
+    })
+}
+
+/// What is known once the greatest latency of an instance was sought where its messages are finished by these ways: as
+/// [`finish_between`] says, with the schedule of a run that has the least. Fails where memory runs out, and else never.
+pub(crate) fn seek_finish(
+    alloc: Global,
+    instance: &Instance,
+    ways: &Ways,
+    start: Schedule,
+    steps: u64,
+) -> Result<SoughtFinish, AllocError>
+    requires assigned { IsAssignment instance.now start }
+    ensures sought { IfOk result (IsSought instance.now ways.now) }
+    ensures no_sooner { IfOk result (λ found. latency_of instance.now start ≤ found.least) }
+{
     delivery_law();
     latest_finishes();
-    let ways = Ways::white_box(alloc, instance.scenario(), replicas)?;
-    let latency = finish_latency(alloc, instance, &start, &ways)?;
-    if closes_finishing(alloc, instance, &ways, latency)? {
-        return Ok(FinishLatency {
+    let _scenario = instance.scenario();
+    let latency = finish_latency(alloc, instance, &start, ways)?;
+    if closes_finishing(alloc, instance, ways, latency)? {
+        return Ok(SoughtFinish {
+            schedule: start,
             least: latency,
             most: latency,
         });
     }
-    let (_schedule, least) = climb_finishes(alloc, instance, &ways, start, steps)?;
-    let most = least_closed(alloc, instance, &ways, least)?;
-    Ok(FinishLatency { least, most })
+    let (schedule, least) = climb_finishes(alloc, instance, ways, start, steps)?;
+    let most = least_closed(alloc, instance, ways, least)?;
+    Ok(SoughtFinish {
+        schedule,
+        least,
+        most,
+    })
 }

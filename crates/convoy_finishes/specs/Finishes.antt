@@ -1,7 +1,7 @@
 -- Messages that are finished at the target's group, so that it may deliver them, only some time after they are committed there: once a majority of each of their groups has answered. Stamps and commits are those of a run without that.
 use Rattle.std.specs.Prelude.{ℕ, ◌+◌, ◌-◌, ◌≤◌, max, nat_le, nat_lt, Bool, ◌&&◌, not, List, ◌∷◌, map, slice_index_or, IsTrue}
 use Rattle.std.specs.List.{list_any}
-use Rattle.convoy_scenario.specs.Scenario.{Scenario, GoesTo, message_at}
+use Rattle.convoy_scenario.specs.Scenario.{Scenario, GoesTo, is_addressed, message_at}
 use Rattle.convoy_packets.specs.Order.{place}
 use Rattle.convoy_packets.specs.Assignment.{Schedule, IsAssignment}
 use Rattle.convoy_sim.specs.Times.{Tick, greatest, issue, arrive, settle}
@@ -18,6 +18,12 @@ abbrev pub finish_by : Scenario → Schedule → List ℕ → ℕ → Tick
 finish_by scenario schedule ways n =
     max (settle scenario schedule n scenario.target_group)
     (greatest (map (λ k. arrive scenario schedule n k + way_at ways n k) (message_at scenario n).destinations))
+
+-- message n is ahead of the target at its group: it goes there, and has a stamp there that is less than the final one of the target
+abbrev pub is_ahead : Scenario → Schedule → ℕ → Bool
+is_ahead scenario schedule n =
+    is_addressed (message_at scenario n) scenario.target_group
+    && is_less (local_stamp scenario schedule n scenario.target_group) (final_stamp scenario schedule scenario.target_message)
 
 -- ticks at which messages may be finished at the target's group: from when they are committed there to the last one
 pub record IsFinishing (scenario : Scenario) (schedule : Schedule) (ways : List ℕ) (finished : ℕ → Tick) : Type 0 where

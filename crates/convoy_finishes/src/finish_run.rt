@@ -3,7 +3,7 @@ ghost use Rattle.convoy_scenario.specs.Scenario.{GoesTo, is_addressed, message_a
 ghost use Rattle.convoy_packets.specs.Assignment.{IsAssignment};
 ghost use Rattle.convoy_sim.specs.Times.{arrive, greatest, issue, settle};
 ghost use Rattle.convoy_sim.specs.Stamps.{final_stamp, is_less, local_stamp};
-ghost use Rattle.convoy_finishes.specs.Finishes.{IsFinishReached, finish_by, finish_latency, way_at};
+ghost use Rattle.convoy_finishes.specs.Finishes.{IsFinishReached, finish_by, finish_latency, is_ahead, way_at};
 
 use super::finish_laws::latest_finishes;
 use super::ways::Ways;
@@ -37,7 +37,7 @@ pub fn finish_latency(
 
 /// A run of an instance under a schedule, in which messages are finished some time after their commit.
 #[derive(Drop)]
-pub(crate) struct FinishRun<'a> {
+pub struct FinishRun<'a> {
     instance: &'a Instance,
     schedule: &'a Schedule,
     ways: &'a Ways,
@@ -61,7 +61,7 @@ impl<'a> Model for FinishRun<'a> {
 
 impl<'a> FinishRun<'a> {
     /// The run of an instance under a schedule. Fails where memory runs out, and else never.
-    pub(crate) fn of(
+    pub fn of(
         alloc: Global,
         instance: &'a Instance,
         schedule: &'a Schedule,
@@ -113,8 +113,8 @@ impl<'a> FinishRun<'a> {
         last.saturating_sub(self.issue(target))
     }
 
-    /// The last tick at which a message is finished at the target's group.
-    pub(crate) fn finish(&self, message: usize) -> u32
+    /// The last tick at which a message that goes there is finished at the target's group.
+    pub fn finish(&self, message: usize) -> u32
         requires { GoesTo self.now.scenario message self.now.scenario.target_group }
         ensures { result ≡ finish_by self.now.scenario self.now.schedule self.now.ways message }
     {
@@ -138,12 +138,9 @@ impl<'a> FinishRun<'a> {
 
     /// Whether a message is ahead of the target at its group: it goes there, and has a stamp there that is less than
     /// the final one of the target.
-    fn is_ahead(&self, message: usize) -> bool
+    pub fn is_ahead(&self, message: usize) -> bool
         requires { message < length self.now.scenario.multicasts }
-        ensures { let scenario = self.now.scenario in result
-            ≡ (is_addressed (message_at scenario message) scenario.target_group
-            && is_less (local_stamp scenario self.now.schedule message scenario.target_group)
-            (final_stamp scenario self.now.schedule scenario.target_message)) }
+        ensures { result ≡ is_ahead self.now.scenario self.now.schedule message }
     {
         let (target, group) = (self.instance.target_message(), self.instance.target_group());
         match (
@@ -157,7 +154,7 @@ impl<'a> FinishRun<'a> {
 
     /// The tick at which the message is issued.
     #[tactic(auto, unfolding(convoy_packets::specs::Assignment::delay_of), using(crate::proofs::Reached::issued_soon))]
-    fn issue(&self, message: usize) -> u32
+    pub fn issue(&self, message: usize) -> u32
         requires { message < length self.now.scenario.multicasts }
         ensures { result ≡ issue self.now.scenario self.now.schedule message }
     {
@@ -178,8 +175,8 @@ impl<'a> FinishRun<'a> {
         }
     }
 
-    /// The tick at which a message is committed at the target's group.
-    fn commit(&self, message: usize) -> u32
+    /// The tick at which a message that goes there is committed at the target's group.
+    pub fn commit(&self, message: usize) -> u32
         requires { GoesTo self.now.scenario message self.now.scenario.target_group }
         ensures { result
             ≡ settle self.now.scenario self.now.schedule message self.now.scenario.target_group }

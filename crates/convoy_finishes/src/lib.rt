@@ -4,7 +4,7 @@
 
 pub use climb::climb_finishes;
 pub use closing::{closes_finishing, least_closed};
-pub use finish_run::finish_latency;
+pub use finish_run::{FinishRun, finish_latency};
 pub use ways::{LONGEST_WAY, Ways};
 
 mod climb;

@@ -1,4 +1,4 @@
-ghost use Rattle.std.specs.Prelude.{◌≡◌, ◌<◌, ◌≤◌, length, IfOk};
+ghost use Rattle.std.specs.Prelude.{◌≡◌, ◌<◌, ◌≤◌, length, All, IfOk, IfSome, IsTrue};
 ghost use Rattle.convoy_scenario.specs.Scenario.{message_at};
 ghost use Rattle.convoy_finishes.specs.Finishes.{way_at};
 ghost use Rattle.convoy_finishes.specs.WhiteBox.{most_between, way_by, white_box_way, white_box_ways};
@@ -51,6 +51,17 @@ impl Ways {
         Ok(Ways { entries })
     }
 
+    /// The ways that are listed, eight for each message; none where one takes longer than [`LONGEST_WAY`].
+    pub fn listed(entries: Vec<u32>) -> Option<Ways>
+        ensures { IfSome result (λ ways. ways ≡ entries.items) }
+    {
+        if are_short(&entries) {
+            Some(Ways { entries })
+        } else {
+            None
+        }
+    }
+
     /// How long it takes at most from when a message comes to a group until the target's group has the answers that
     /// wait for that, in ticks; 0 where nothing is said.
     pub fn way(&self, message: usize, group: usize) -> u32
@@ -64,6 +75,13 @@ impl Ways {
             .copied()
             .unwrap_or(0)
     }
+}
+
+/// Whether none of them takes longer than a way may.
+fn are_short(entries: &[u32]) -> bool
+    ensures { IsTrue result → All (λ way. way ≤ LONGEST_WAY) entries.now }
+{
+    entries.iter().all(|way| *way <= LONGEST_WAY)
 }
 
 /// How long it takes at most from when a message comes to a group until all replicas of all its destinations have

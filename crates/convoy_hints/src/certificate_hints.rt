@@ -47,6 +47,9 @@ pub fn hint_for_unchecked(alloc: Global, limit: u64, most: u64) -> Result<String
 fn hint_for_refused_text(alloc: Global, text: &[u8], whole: bool, fault: TextFault) -> Hint {
     match hint_for_damage(alloc, text)? {
         Some(hint) => Ok(Some(hint)),
+        None if text.starts_with(b"convoy finish ") => format!(in alloc;
+            "the input is a certificate of groups that are replicated by white box, which 'check', 'explain', 'packets' and 'scenario' read"
+        ).map(Some),
         None if is_meant_as_certificate(text) => hint_for_lines(alloc, text, whole, fault),
         None => hint_for_other_text(alloc, text).map(Some),
     }

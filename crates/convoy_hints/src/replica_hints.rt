@@ -15,10 +15,11 @@ pub fn hint_for_replicas(alloc: Global, fault: ReplicaFault) -> Result<String, A
     }
 }
 
-/// What an open answer says where replicas have to answer, and late runs were sought by so many simulations of `most`
-/// that may be made, in one line `hint: ..`: to rely on its second number, or to let more runs be tried.
+/// What an open answer of that word says where replicas have to answer, and late runs were sought by so many simulations of
+/// `most` that may be made, in one line `hint: ..`: to rely on its second number, or to let more runs be tried.
 pub fn hint_for_open_accept(
     alloc: Global,
+    word: &str,
     simulations: u64,
     most: u64,
 ) -> Result<String, AllocError> {
@@ -30,6 +31,6 @@ pub fn hint_for_open_accept(
         String::new(alloc)
     };
     format!(in alloc;
-        "hint: no latency where replicas answer is above the second number of 'accept-open', and some run has the first{rest}\n"
+        "hint: no latency where replicas answer is above the second number of '{word}', and some run has the first{rest}\n"
     )
 }

@@ -5,11 +5,12 @@
 use super::end::End;
 use super::kept::KeptWriter;
 use super::kind_hints::{hint_for_kinds, hint_for_shared};
+use super::other_hints::{CertificateForm, hint_for_other};
 use super::sweep_hints::hint_for_sweep;
 use super::table_hints::hint_for_table;
 use super::trace_hints::{hint_for_long_trace, hint_for_trace};
 use super::workflow_hints::{
-    hint_for_open_workflow, hint_for_other, hint_for_scenario_of_workflow, hint_for_workflow,
+    hint_for_open_workflow, hint_for_scenario_of_workflow, hint_for_workflow,
 };
 use convoy_arguments::{Input, REJECTED, Verdict};
 use convoy_batches::MOST_JOBS;
@@ -34,8 +35,7 @@ use convoy_streams::KeptReader;
 use convoy_task_list::{
     CertificateTask, KindsTask, PlanTask, ScenarioTask, SearchTask, Task, TraceTask,
 };
-use convoy_toml::{Asked, MOST_CASES, acceptances_of_text, cases_of_text, outage_of_text};
-use convoy_workflow_replies::is_workflow_certificate;
+use convoy_toml::{Asked, MOST_CASES, accepts_by_text, cases_of_text, outage_of_text};
 use convoy_workflows::is_workflow;
 use std::alloc::{AllocError, Global};
 use std::io::{Error, Write};
@@ -198,13 +198,15 @@ fn hint_for_end<R, W>(alloc: Global, run: &Finished<'_, R, W>, end: &End) -> Hin
         },
         Done::Differs(_) => match (&end.wanted, &end.known) {
             (Some(wanted), Some(known)) => {
-                let of_workflow = is_workflow_certificate(run.reader.text());
-                hint_for_other(alloc, wanted, of_workflow, &known.scenario).map(Some)
+                let form = CertificateForm::of(run.reader.text());
+                hint_for_other(alloc, wanted, form, &known.scenario).map(Some)
             }
             _ => Ok(None),
         },
         Done::Open if !is_batch(run.verdict) => hint_for_open(alloc, run),
-        Done::Departs | Done::PlanRefused | Done::WorkflowRefused => Ok(None),
+        Done::Departs | Done::PlanRefused | Done::WorkflowRefused | Done::FinishRefused => {
+            Ok(None)
+        }
         Done::Fine | Done::Open | Done::Beyond | Done::Faulty => hint_for_answer(alloc, run, end),
     }
 }
@@ -469,7 +471,13 @@ fn hint_for_open<R, W>(alloc: Global, run: &Finished<'_, R, W>) -> Hint {
         return Ok(None);
     };
     if waits_for_replicas {
-        return hint_for_open_accept(alloc, options.simulations(), MOST_SIMULATIONS).map(Some);
+        let word = if writes_certificate(run.verdict) {
+            "open"
+        } else {
+            "accept-open"
+        };
+        let simulations = options.simulations();
+        return hint_for_open_accept(alloc, word, simulations, MOST_SIMULATIONS).map(Some);
     }
     if of_workflow(alloc, run)? {
         return hint_for_open_workflow(alloc, options.simulations(), MOST_SIMULATIONS).map(Some);
@@ -571,18 +579,24 @@ fn asks_for_replicas<R, W>(alloc: Global, run: &Finished<'_, R, W>) -> Result<bo
         ) => Ok(true),
         Some(
             Task::Search {
-                what: SearchTask::Latency {
+                what: SearchTask::Analyse
+                | SearchTask::Latency {
                     with_ceiling: false,
                     outage: None,
                     accept: None,
                 },
                 ..
             },
-        ) if run.reader.is_whole() => {
-            let acceptances = acceptances_of_text(alloc, run.reader.text())?;
-            Ok(!acceptances.is_empty())
-        }
+        ) if run.reader.is_whole() => accepts_by_text(alloc, run.reader.text()),
         _ => Ok(false),
+    }
+}
+
+/// Whether a certificate is asked for.
+fn writes_certificate(verdict: &Verdict) -> bool {
+    match task_of(verdict) {
+        Some(Task::Search { what, .. }) => matches!(what, SearchTask::Analyse),
+        _ => false,
     }
 }
 

@@ -9,6 +9,7 @@ mod end;
 mod hinting;
 mod kept;
 mod kind_hints;
+mod other_hints;
 mod sweep_hints;
 mod table_hints;
 mod trace_hints;

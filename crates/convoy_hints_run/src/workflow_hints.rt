@@ -1,8 +1,7 @@
 //! Hints for texts in which messages follow others.
 
-use convoy_hints::{Hint, hint_for_difference};
-use convoy_scenario::{Scenario, ScenarioFault, difference};
-use convoy_workflow_replies::Reference;
+use convoy_hints::Hint;
+use convoy_scenario::ScenarioFault;
 use convoy_workflow_words::{WorkflowFault, WorkflowKey};
 use std::alloc::{AllocError, Global};
 
@@ -67,40 +66,4 @@ pub(crate) fn hint_for_open_workflow(
     format!(in alloc;
         "hint: no run in which messages follow others is above the last number, and of 'open' some run has the first{rest}\n"
     )
-}
-
-/// The hint for a valid certificate that is not of what is wanted, where it is one of a workflow or of a scenario, and has
-/// this scenario: in what the two scenarios differ, or else in what they do not tell.
-pub(crate) fn hint_for_other(
-    alloc: Global,
-    wanted: &Reference,
-    of_workflow: bool,
-    found: &Scenario,
-) -> Result<String, AllocError> {
-    match (wanted, of_workflow) {
-        (Reference::Scenario(scenario), false) => hint_for_difference(alloc, scenario, found),
-        (Reference::Scenario(_), true) => format!(in alloc;
-            "hint: the certificate is valid, of a workflow: in the scenario of '--scenario' no message follows another\n"
-        ),
-        (Reference::Workflow(_), false) => format!(in alloc;
-            "hint: the certificate is valid, of a scenario: in the workflow of '--scenario' messages follow others\n"
-        ),
-        (Reference::Workflow(workflow), true) => {
-            hint_for_other_workflow(alloc, &workflow.scenario, found)
-        }
-    }
-}
-
-/// The same where both are of workflows, with these scenarios.
-fn hint_for_other_workflow(
-    alloc: Global,
-    wanted: &Scenario,
-    found: &Scenario,
-) -> Result<String, AllocError> {
-    match difference(wanted, found) {
-        Some(_) => hint_for_difference(alloc, wanted, found),
-        None => format!(in alloc;
-            "hint: the certificate is valid, of another workflow: messages follow others in another way, or the time counts from another message, than in that of '--scenario'\n"
-        ),
-    }
 }

@@ -35,6 +35,9 @@ pub fn hint_for_shape(
     if key == Key::Agree && says_accept(inner) {
         return hint_for_accept(alloc, Key::Steps, &part).map(Some);
     }
+    if key == Key::Steps && !says_accept(inner) && some_accept(source.table) {
+        return hint_for_other_steps(alloc, &part).map(Some);
+    }
     match inner.get(key.word()) {
         Some(value) => hint_for_value(alloc, source, inner, key, value, &part).map(Some),
         None => hint_for_absent(alloc, source, inner, key, &part).map(Some),
@@ -109,7 +112,7 @@ fn hint_for_value(
             "'{key}' in {part} has the clients in it: leave the key '{key}' out where clients send"
         ),
         (Key::From, _) if names_several(value, part.table) => format!(in alloc;
-            "'{key}' in {part} names several senders, and what is asked for is told of one: write one of them, or ask 'latency' without '--ceiling', which tells the worst"
+            "'{key}' in {part} names several senders, and what is asked for is told of one: write one of them, or ask 'latency' without '--ceiling', which tells the worst, or 'survey' without '--outage', which tells each"
         ),
         (Key::Steps, Some(ACCEPT)) => hint_for_accept(alloc, key, part),
         (Key::Steps, Some(word)) => hint_for_steps_word(alloc, word, part),
@@ -246,10 +249,25 @@ fn says_accept(table: &Table) -> bool {
     table.get(Key::Steps.word()).and_then(Value::as_str) == Some(ACCEPT)
 }
 
+/// Whether some table of groups of a text says so.
+fn some_accept(table: &Table) -> bool {
+    match table.get(Key::Group.word()).and_then(Value::as_array) {
+        Some(items) => items.iter().filter_map(Value::as_table).any(says_accept),
+        None => false,
+    }
+}
+
+/// What a table of groups has to say beside one that says so.
+fn hint_for_other_steps(alloc: Global, part: &Part<'_>) -> Result<String, AllocError> {
+    format!(in alloc;
+        "'steps' in {part} is not \"accept\", as in another table [[group]]: where one of them has it each does, with 'replicas', a time from 0, in place of 'agree'"
+    )
+}
+
 /// Who reads groups that are replicated by white box, and what each table of groups has then.
 fn hint_for_accept(alloc: Global, key: Key, part: &Part<'_>) -> Result<String, AllocError> {
     format!(in alloc;
-        "'{key}' in {part} is \"accept\", of which only 'latency' tells, without '--ceiling' and '--outage': then each table [[group]] has it, with 'replicas', a time from 0, in place of 'agree'"
+        "'{key}' in {part} is \"accept\", of which only 'latency', without '--ceiling' and '--outage', and 'analyse' tell: then each table [[group]] has it, with 'replicas', a time from 0, in place of 'agree'"
     )
 }
 

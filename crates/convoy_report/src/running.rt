@@ -112,6 +112,7 @@ fn accepted(alloc: Global, asking: Asking, found: &[u8]) -> Result<Option<Vec<u8
         | Done::Refused(_)
         | Done::PlanRefused
         | Done::WorkflowRefused
+        | Done::FinishRefused
         | Done::Differs(_)
         | Done::Departs
         | Done::NotChecked => Ok(None),

@@ -58,6 +58,7 @@ pub(crate) fn verdict(judged: bool, done: Done) -> &'static str
             | Done::Refused(_)
             | Done::PlanRefused
             | Done::WorkflowRefused
+            | Done::FinishRefused
             | Done::Differs(_)
             | Done::Departs
             | Done::NotChecked,

@@ -126,7 +126,7 @@ pub fn is_row_beyond(deadlines: &[Option<u32>], row: &Surveyed) -> bool
 }
 
 /// Whether it is not known if a row keeps the deadline of its message, or where that has none the search did not end.
-fn is_row_open(deadlines: &[Option<u32>], row: &Surveyed) -> bool
+pub fn is_row_open(deadlines: &[Option<u32>], row: &Surveyed) -> bool
     ensures { result ≡ is_row_open deadlines.now row.now }
 {
     row.finding.is_open_by(deadline_at(deadlines, row.message))

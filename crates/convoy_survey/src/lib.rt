@@ -2,7 +2,7 @@
 //! that it goes to, and their ceilings; and how these keep their deadlines.
 #![tactic(auto)]
 
-pub use answering::{end_of, is_row_beyond, span_of, survey_answer};
+pub use answering::{end_of, is_row_beyond, is_row_open, span_of, survey_answer};
 pub use at_all::{AtAll, ceiling_at_all, greater, rows_of};
 pub use ceiled::Ceiled;
 pub use ceiling_answer::ceilings_answer;
@@ -19,7 +19,9 @@ pub use judgements::{
 };
 pub use rows::{survey, survey_by, with_rows};
 pub use searching::{find, scenario_at};
-pub use table::{push_ceiling_columns_if, push_finding_columns, push_time_columns, survey_text};
+pub use table::{
+    push_ceiling_columns_if, push_finding_columns, push_time_columns, survey_table, survey_text,
+};
 pub use time_cells::{
     push_columns_if_told, push_time, push_time_if_told, push_time_pair, push_unit,
 };

@@ -26,12 +26,13 @@ pub fn survey_text(
     ensures { IfOk result (λ text. text.items
         ≡ table_text format (table_of with_ceilings times.now deadlines.now scenario.now rows.now)) }
 {
-    let table = table_of(alloc, with_ceilings, times, deadlines, scenario, rows)?;
+    let table = survey_table(alloc, with_ceilings, times, deadlines, scenario, rows)?;
     table_text(alloc, &table, format)
 }
 
-/// The table of a survey, judged where a message has a deadline, and with ceilings where they are asked for.
-fn table_of(
+/// The table of a survey, judged where a message has a deadline, and with ceilings where they are asked for. Fails where
+/// memory runs out, and else never.
+pub fn survey_table(
     alloc: Global,
     with_ceilings: bool,
     times: &Times,

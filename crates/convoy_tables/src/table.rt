@@ -128,6 +128,15 @@ impl Table {
         Ok(self.rows.push(row)?)
     }
 
+    /// Puts the rows of another table at the end of this one. Fails where memory runs out, and else never.
+    pub fn append(&mut self, other: Table) -> Result<(), AllocError>
+        ensures { OnOk result (self.new ≡ record self.old { rows = self.old.rows ++ other.rows }) }
+    {
+        let Table { rows, .. } = other;
+        let mut rows = rows;
+        Ok(self.rows.append(&mut rows)?)
+    }
+
     /// The table with one more column, which has the same word in each row. Fails where memory runs out, and else never.
     pub fn with_column(self, alloc: Global, name: &str, text: &str) -> Result<Table, AllocError>
         ensures { IfOk result (λ table. table ≡ record {

@@ -13,6 +13,11 @@ use Rattle.convoy_case_answers.specs.declared.late.Late.{Late}
 use Rattle.convoy_case_answers.specs.declared.late.Late.TheVariants as lates
 use Rattle.convoy_case_answers.specs.CaseAnswers.{latency_of_cases_says}
 use Rattle.convoy_case_answers.specs.Founds.{IsCaseRefused, IsLateRefused}
+use Rattle.convoy_case_survey.specs.CaseSurveys.{case_asked}
+use Rattle.convoy_finish_answers.specs.AcceptedTexts.{accepting}
+use Rattle.convoy_finish_replies.specs.FinishForms.{is_finish_certificate}
+use Rattle.convoy_toml.specs.Cases.{cases_of_text}
+use Rattle.convoy_toml.specs.Reading.{accepts_by_text}
 use Rattle.convoy_workflow_words.specs.declared.fault.WorkflowFault.{WorkflowFault}
 use Rattle.convoy_workflow_words.specs.declared.fault.WorkflowFault.TheVariants as workflows
 use Rattle.convoy_workflows.specs.Reading.{is_workflow_text}
@@ -94,8 +99,8 @@ use Rattle.convoy_trace_ranges.specs.Beside.{beside_told}
 use Rattle.convoy_trace_ranges.specs.LinkTables.{trace_table_text}
 use Rattle.convoy_workflow_replies.specs.declared.reference.Reference.{Reference}
 use Rattle.convoy_workflow_replies.specs.declared.reference.Reference.TheVariants as references
-use Rattle.convoy_workflow_replies.specs.WorkflowForms.{is_workflow_certificate, told_text}
-use Rattle.convoy_tasks.specs.Tasks.{check_against, check_by, form_says, greatest_says, kinds_say, late_by, latency_by, latency_ceiled_by, latency_late_by, of_scenario_says, of_workflow_says, outage_told, plan_says, proof_says, scenario_says, search_says, scenario_wanted, survey_through_by, task_says, telling_says, tells_late_run, trace_of_says}
+use Rattle.convoy_workflow_replies.specs.WorkflowForms.{is_workflow_certificate}
+use Rattle.convoy_tasks.specs.Tasks.{check_against, check_by, form_says, greatest_says, kinds_say, late_by, latency_by, latency_ceiled_by, latency_late_by, of_scenario_says, of_workflow_says, outage_told, plan_says, proof_says, scenario_says, search_says, scenario_wanted, survey_through_by, task_says, telling_says, tells_late_run, trace_of_says, scenario_proof_says, survey_says, of_finish_says, other_says, text_told}
 
 -- the fault of an answer is that of the reply
 fault_of_fine : (answer : Result (List ℕ) Fault) (fault : Fault) → Err fault ≡ fine answer → answer ≡ Err fault
@@ -139,6 +144,7 @@ about_no_device (Some scenario) tells unit text fault says = check_no_device tex
 -- and likewise where what is wanted may be a workflow
 against_no_device : (reference : Reference) (tells : Bool) (unit : Option TimeUnit) (text : List ℕ) (fault : Fault) → check_against reference tells unit text (Err fault) → IsNoDevice fault
 against_no_device (references.Scenario scenario) tells unit text fault says = about_no_device (Some scenario) tells unit text fault says
+against_no_device (references.Accepted accepted) tells unit text fault says = check_no_device text fault says
 against_no_device (references.Workflow workflow) tells unit text fault says = check_no_device text fault says
 
 check_by_no_device : (wanted : Option Reference) (tells : Bool) (unit : Option TimeUnit) (text : List ℕ) (fault : Fault) → check_by wanted tells unit text (Err fault) → IsNoDevice fault
@@ -171,9 +177,15 @@ telling_no_device : (is_late_run : Bool) (telling : Telling) (text : List ℕ) (
 telling_no_device true telling text fault faulty = rw faulty.told (no_device_in_workflow faulty.cause)
 telling_no_device false telling text fault says = tell_no_device telling text fault says
 
+scenario_proof_no_device : (accepts : Bool) (asked : Asked) (settings : Settings) (text : List ℕ) (fault : Fault)
+    → scenario_proof_says accepts asked settings text (Err fault) → IsNoDevice fault
+scenario_proof_no_device true asked settings text fault (inl faulty) = search_no_device (accepting asked) text fault faulty
+scenario_proof_no_device true asked settings text fault (inr refused) = rw refused.told tt
+scenario_proof_no_device false asked settings text fault says = search_no_device asked text fault says
+
 proof_no_device : (is_workflow : Bool) (asked : Asked) (settings : Settings) (text : List ℕ) (fault : Fault) → proof_says is_workflow asked settings text (Err fault) → IsNoDevice fault
 proof_no_device true asked settings text fault faulty = rw faulty.told (no_device_in_workflow faulty.cause)
-proof_no_device false asked settings text fault says = search_no_device asked text fault says
+proof_no_device false asked settings text fault says = scenario_proof_no_device (accepts_by_text text) asked settings text fault says
 
 late_no_device : (late : Late) (asked : Asked) (text : List ℕ) (fault : Fault) → IsLateRefused late asked text fault → IsNoDevice fault
 late_no_device lates.Nothing asked text fault refused = absurd refused
@@ -215,9 +227,16 @@ latency_no_device : (accept : Option WrittenTime) (outage : Option Outage) (with
 latency_no_device accept outage true asked settings text fault says = latency_ceiled_no_device (outage_told outage text) asked settings text fault says
 latency_no_device accept outage false asked settings text fault says = latency_late_no_device (late_by accept outage text) asked settings text fault says
 
+case_survey_no_device : (has_cases : Bool) (format : Format) (with_ceilings : Bool) (asked : Asked) (settings : Settings) (text : List ℕ) (fault : Fault)
+    → survey_says has_cases format with_ceilings asked settings text (Err fault) → IsNoDevice fault
+case_survey_no_device true format with_ceilings asked settings text fault (inl many) = rw many.told tt
+case_survey_no_device true format with_ceilings asked settings text fault (inr one) = search_no_device (case_asked asked one.number) text fault one.faulty
+case_survey_no_device false format with_ceilings asked settings text fault says = search_no_device (case_asked asked 0) text fault says
+
 survey_no_device : (outage : Option Outage) (format : Format) (with_ceilings : Bool) (asked : Asked) (settings : Settings) (text : List ℕ) (fault : Fault)
     → survey_through_by outage format with_ceilings asked settings text (Err fault) → IsNoDevice fault
-survey_no_device None format with_ceilings asked settings text fault says = search_no_device asked text fault says
+survey_no_device None format with_ceilings asked settings text fault says =
+    case_survey_no_device (nat_le 2 (cases_of_text text)) format with_ceilings asked settings text fault says
 survey_no_device (Some outage) format with_ceilings asked settings text fault says = through_no_device outage asked text fault says
 
 what_if_no_device : (format : Format) (shows_all : Bool) (asked : Asked) (settings : Settings) (text : List ℕ) (fault : Fault) → WhatIfSays format shows_all asked settings text (Err fault) → IsNoDevice fault
@@ -382,10 +401,23 @@ of_workflow_no_device (certificates.Check tells) wanted unit text fault none = a
 of_workflow_no_device (certificates.Explain with_ceiling) wanted unit text fault none = absurd none
 of_workflow_no_device certificates.Draw wanted unit text fault none = absurd none
 
+-- nor has that of finishes
+of_finish_no_device : (what : CertificateTask) (wanted : Option Reference) (unit : Option TimeUnit) (limit : Option ℕ) (text : List ℕ) (fault : Fault)
+    → of_finish_says what wanted unit limit text (Err fault) → IsNoDevice fault
+of_finish_no_device (certificates.Check tells) wanted unit limit text fault none = absurd none
+of_finish_no_device (certificates.Explain with_ceiling) wanted unit limit text fault none = absurd none
+of_finish_no_device certificates.Draw wanted unit limit text fault says =
+    draw_no_device unit text fault (fault_within limit NotChecked (AskSays (askings.Draw unit)) text fault says)
+
+other_no_device : (is_finish : Bool) (what : CertificateTask) (wanted : Option Reference) (unit : Option TimeUnit) (limit : Option ℕ) (text : List ℕ) (fault : Fault)
+    → other_says is_finish what wanted unit limit text (Err fault) → IsNoDevice fault
+other_no_device true what wanted unit limit text fault says = of_finish_no_device what wanted unit limit text fault says
+other_no_device false what wanted unit limit text fault says = of_scenario_no_device what wanted unit limit text fault says
+
 certificate_no_device : (is_workflow : Bool) (what : CertificateTask) (wanted : Option Reference) (unit : Option TimeUnit) (limit : Option ℕ) (text : List ℕ) (fault : Fault)
     → form_says is_workflow what wanted unit limit text (Err fault) → IsNoDevice fault
 certificate_no_device true what wanted unit limit text fault says = of_workflow_no_device what wanted unit text fault says
-certificate_no_device false what wanted unit limit text fault says = of_scenario_no_device what wanted unit limit text fault says
+certificate_no_device false what wanted unit limit text fault says = other_no_device (is_finish_certificate text) what wanted unit limit text fault says
 
 kinds_say_no_device : (what : KindsTask) (unit : Option TimeUnit) (text : List ℕ) (fault : Fault) → kinds_say what unit text (Err fault) → IsNoDevice fault
 kinds_say_no_device (kinds_tasks.Table format) unit text fault says = kinds_no_device text fault says
@@ -400,7 +432,7 @@ trace_of_no_device (trace_tasks.Table format unit) wanted text fault says =
 trace_of_no_device (trace_tasks.Beside format unit) wanted text fault says = beside_no_device wanted format unit text fault says
 
 pub says_no_device : (task : Task) (wanted : Option Reference) (text : List ℕ) (fault : Fault) → task_says task wanted text (Err fault) → IsNoDevice fault
-says_no_device (Tell telling) wanted text fault says = telling_no_device (tells_late_run telling (told_text text)) telling (told_text text) fault says
+says_no_device (Tell telling) wanted text fault says = telling_no_device (tells_late_run telling (text_told telling text)) telling (text_told telling text) fault says
 says_no_device (OfScenario asked what) wanted text fault says = scenario_says_no_device what asked text fault says
 says_no_device (Ceilings format group simulations outage asked unit) wanted text fault says = ceilings_no_device format (outage_told outage text) asked unit (option_map string_bytes group) text fault says
 says_no_device (Search asked options what) wanted text fault says = search_says_no_device what asked options text fault says

@@ -15,6 +15,12 @@ pub use Rattle.convoy_commands.specs.WithCeilings
 pub use Rattle.convoy_commands.specs.Searches
 pub use Rattle.convoy_commands.specs.CommandLaws
 pub use Rattle.convoy_case_answers.specs.CaseAnswers
+pub use Rattle.convoy_case_survey.specs.CaseSurveys
+pub use Rattle.convoy_finish_answers.specs.AcceptedTexts
+pub use Rattle.convoy_finish_answers.specs.FinishProofs
+pub use Rattle.convoy_finish_replies.specs.FinishForms
+pub use Rattle.convoy_finish_replies.specs.FinishReferences
+pub use Rattle.convoy_finish_replies.specs.FinishReplies
 pub use Rattle.convoy_survey.specs.Surveys
 pub use Rattle.convoy_survey.specs.CeilingTables
 pub use Rattle.convoy_what_if.specs.WhatIf

@@ -1,7 +1,8 @@
 -- The tasks: what each may answer for a text, and how long the text may be.
-use Rattle.std.specs.Prelude.{ℕ, nat_le, length, if◌then◌else◌, Bool, true, false, List, Option, Some, None, string_bytes}
+use Rattle.std.specs.Prelude.{ℕ, nat_le, if◌then◌else◌, Bool, true, false, List, Option, Some, None, string_bytes}
 use Rattle.std.specs.Option.{option_map}
 use Rattle.convoy_scenario.specs.Scenario.{Scenario}
+use Rattle.convoy_scenario.specs.declared.part.Part.TheVariants as parts
 use Rattle.convoy_commands.specs.declared.asking.Asking.TheVariants as askings
 use Rattle.convoy_commands.specs.declared.done.Done.TheVariants.{NotChecked}
 use Rattle.convoy_commands.specs.declared.limits.TheConstants.{LONGEST_CERTIFICATE, LONGEST_JOB}
@@ -14,7 +15,8 @@ use Rattle.convoy_commands.specs.Searches.{AnalyseSays}
 use Rattle.convoy_commands.specs.Tells.{TellSays}
 use Rattle.convoy_commands.specs.declared.telling.Telling.{Telling}
 use Rattle.convoy_commands.specs.declared.telling.Telling.TheVariants as tellings
-use Rattle.convoy_toml.specs.Reading.{acceptances_of_text, as_written, outage_of_text}
+use Rattle.convoy_toml.specs.Cases.{cases_of_text}
+use Rattle.convoy_toml.specs.Reading.{accepts_by_text, as_written, outage_of_text}
 use Rattle.convoy_commands.specs.WithCeilings.{explain_says, latency_says}
 use Rattle.convoy_commands.specs.Withins.{SaysWithin}
 use Rattle.convoy_outages.specs.declared.outage.Outage.{Outage}
@@ -22,6 +24,10 @@ use Rattle.convoy_outage_answers.specs.Latencies.{latency_through_says}
 use Rattle.convoy_case_answers.specs.declared.late.Late.{Late}
 use Rattle.convoy_case_answers.specs.declared.late.Late.TheVariants as lates
 use Rattle.convoy_case_answers.specs.CaseAnswers.{latency_of_cases_says}
+use Rattle.convoy_case_survey.specs.CaseSurveys.{case_asked, survey_of_cases_says}
+use Rattle.convoy_finish_answers.specs.FinishProofs.{FinishProofSays}
+use Rattle.convoy_finish_replies.specs.FinishForms.{is_finish_certificate, scenario_text}
+use Rattle.convoy_finish_replies.specs.FinishReplies.{CheckFinishSays, ExplainFinishSays}
 use Rattle.convoy_workflows.specs.Reading.{is_workflow_text}
 use Rattle.convoy_workflow_answers.specs.WorkflowLatencies.{workflow_latency_says}
 use Rattle.convoy_workflow_answers.specs.LateRuns.{LateRunSays}
@@ -29,7 +35,7 @@ use Rattle.convoy_workflow_answers.specs.WorkflowProofs.{WorkflowProofSays}
 use Rattle.convoy_workflow_replies.specs.declared.reference.Reference.{Reference}
 use Rattle.convoy_workflow_replies.specs.declared.reference.Reference.TheVariants as references
 use Rattle.convoy_workflow_replies.specs.WorkflowAsks.{AskWorkflowSays}
-use Rattle.convoy_workflow_replies.specs.WorkflowChecks.{CheckAgainstWorkflowSays, CheckWorkflowSays}
+use Rattle.convoy_workflow_replies.specs.WorkflowChecks.{CheckOfOtherSays, CheckWorkflowSays}
 use Rattle.convoy_workflow_replies.specs.WorkflowForms.{is_workflow_certificate, told_text}
 use Rattle.convoy_outage_answers.specs.SurveysThrough.{SurveyThroughSays}
 use Rattle.convoy_survey.specs.CeilingTables.{CeilingsSay}
@@ -89,9 +95,16 @@ telling_says false telling = TellSays telling
 abbrev pub telling_by : Telling → Rule
 telling_by telling text = telling_says (tells_late_run telling text) telling text
 
--- the same, of a certificate of a workflow that of the certificate in it
+-- the text of which that is told: of a certificate of a workflow the certificate in it; of one of finishes, too, but for what tells of deliveries, since it has another run in it
+abbrev pub text_told : Telling → List ℕ → List ℕ
+text_told tellings.Simulate text = told_text text
+text_told tellings.Timeline text = told_text text
+text_told tellings.Packets text = scenario_text text
+text_told tellings.Toml text = scenario_text text
+
+-- what is told of that
 abbrev pub told_by : Telling → Rule
-told_by telling text = telling_by telling (told_text text)
+told_by telling text = telling_by telling (text_told telling text)
 
 -- the outages that are asked for: those of the option where it is given, or else those that the text tells, if it does
 abbrev pub outage_told : Option Outage → List ℕ → Option Outage
@@ -112,10 +125,19 @@ scenario_says scenarios.First asked = FirstSays asked
 scenario_says scenarios.Text asked = ScenarioTextSays asked
 scenario_says (scenarios.Ceiling simulations outage unit) asked = ceiling_by outage asked unit
 
+-- a certificate of the greatest latency of a scenario, whose groups are replicated by white box or not
+abbrev pub scenario_proof_says : Bool → Asked → Settings → Rule
+scenario_proof_says true asked settings = FinishProofSays asked settings
+scenario_proof_says false asked settings = AnalyseSays asked settings
+
+-- the one or the other, as the text is
+abbrev pub scenario_proof_by : Asked → Settings → Rule
+scenario_proof_by asked settings text = scenario_proof_says (accepts_by_text text) asked settings text
+
 -- a certificate of the greatest time of a workflow, or of the greatest latency of a scenario
 abbrev pub proof_says : Bool → Asked → Settings → Rule
 proof_says true asked settings = WorkflowProofSays asked settings
-proof_says false asked settings = AnalyseSays asked settings
+proof_says false asked settings = scenario_proof_by asked settings
 
 -- the one, where the text is that of a workflow, and else the other
 abbrev pub analyse_by : Asked → Settings → Rule
@@ -133,7 +155,7 @@ late_through (Some outage) = lates.Outages outage
 
 -- what does by the text alone: the answers of replicas where its groups are replicated by white box, and else the outages that it tells, if it does
 abbrev pub late_of_text : List ℕ → Late
-late_of_text text = if nat_le 1 (length (acceptances_of_text text)) then lates.Answers None else late_through (outage_told None text)
+late_of_text text = if accepts_by_text text then lates.Answers None else late_through (outage_told None text)
 
 -- what does by an option, or else by the text
 abbrev pub late_by : Option WrittenTime → Option Outage → List ℕ → Late
@@ -161,9 +183,18 @@ abbrev pub latency_by : Option WrittenTime → Option Outage → Bool → Asked 
 latency_by accept outage false asked settings text = latency_late_by (late_by accept outage text) asked settings text
 latency_by accept outage true asked settings text = latency_ceiled_by (outage_told outage text) asked settings text
 
+-- the greatest latencies of all targets, in several cases, or in the only one
+abbrev pub survey_says : Bool → Format → Bool → Asked → Settings → Rule
+survey_says true format with_ceilings asked settings = survey_of_cases_says format with_ceilings asked settings
+survey_says false format with_ceilings asked settings = SurveySays format with_ceilings (case_asked asked 0) settings
+
+-- the one, where several may send a message of the text, and else the other
+abbrev pub survey_plain_by : Format → Bool → Asked → Settings → Rule
+survey_plain_by format with_ceilings asked settings text = survey_says (nat_le 2 (cases_of_text text)) format with_ceilings asked settings text
+
 -- the greatest latencies of all targets, with what none is above through outages where these are asked for
 abbrev pub survey_through_by : Option Outage → Format → Bool → Asked → Settings → Rule
-survey_through_by None format with_ceilings asked settings = SurveySays format with_ceilings asked settings
+survey_through_by None format with_ceilings asked settings = survey_plain_by format with_ceilings asked settings
 survey_through_by (Some outage) format with_ceilings asked settings = SurveyThroughSays format with_ceilings outage asked settings
 
 -- the same of the outages that the option or the text tells
@@ -192,10 +223,11 @@ plan_says (plans.Ceiling format unit) wanted asked = PlanCeilingSays format want
 plan_says plans.CeilingScenario wanted asked = CeilingPlacingSays wanted asked
 plan_says plans.Check wanted asked = PlanCheckSays wanted asked
 
--- whether the certificate of a scenario is of that: of a workflow none is
+-- whether the certificate of a scenario is of that: of a workflow none is, and of groups that are replicated by white box none
 abbrev pub check_against : Reference → Bool → Option TimeUnit → Rule
 check_against (references.Scenario scenario) tells unit = check_says (Some scenario) tells unit
-check_against (references.Workflow workflow) tells unit = CheckAgainstWorkflowSays
+check_against (references.Accepted accepted) tells unit = CheckOfOtherSays parts.Groups
+check_against (references.Workflow workflow) tells unit = CheckOfOtherSays parts.Multicasts
 
 -- whether it is of what is wanted, if something is
 abbrev pub check_by : Option Reference → Bool → Option TimeUnit → Rule
@@ -214,10 +246,25 @@ of_workflow_says (certificates.Check tells) wanted unit = CheckWorkflowSays want
 of_workflow_says (certificates.Explain with_ceiling) wanted unit = AskWorkflowSays (askings.Explain unit)
 of_workflow_says certificates.Draw wanted unit = AskWorkflowSays (askings.Draw unit)
 
--- what a certificate answers, of a workflow or of a scenario
+-- what the certificate of finishes answers, likewise: no image is drawn of it, and so it is refused there as that of no scenario
+abbrev pub of_finish_says : CertificateTask → Option Reference → Option TimeUnit → Option ℕ → Rule
+of_finish_says (certificates.Check tells) wanted unit limit = CheckFinishSays wanted tells unit
+of_finish_says (certificates.Explain with_ceiling) wanted unit limit = ExplainFinishSays unit
+of_finish_says certificates.Draw wanted unit limit = SaysWithin limit NotChecked (AskSays (askings.Draw unit))
+
+-- what one answers that is of no workflow: of finishes, or of a scenario
+abbrev pub other_says : Bool → CertificateTask → Option Reference → Option TimeUnit → Option ℕ → Rule
+other_says true what wanted unit limit = of_finish_says what wanted unit limit
+other_says false what wanted unit limit = of_scenario_says what wanted unit limit
+
+-- the one, where the text begins as one of finishes, and else the other
+abbrev pub of_others_says : CertificateTask → Option Reference → Option TimeUnit → Option ℕ → Rule
+of_others_says what wanted unit limit text = other_says (is_finish_certificate text) what wanted unit limit text
+
+-- what a certificate answers, of a workflow or another one
 abbrev pub form_says : Bool → CertificateTask → Option Reference → Option TimeUnit → Option ℕ → Rule
 form_says true what wanted unit limit = of_workflow_says what wanted unit
-form_says false what wanted unit limit = of_scenario_says what wanted unit limit
+form_says false what wanted unit limit = of_others_says what wanted unit limit
 
 -- the one, where the text begins as one of a workflow, and else the other
 abbrev pub certificate_says : CertificateTask → Option Reference → Option TimeUnit → Option ℕ → Rule

@@ -1,24 +1,23 @@
-ghost use Rattle.std.specs.Prelude.{◌≡◌, ◌<◌, IfOk, length, string_bytes};
+ghost use Rattle.std.specs.Prelude.{◌≡◌, ◌<◌, length, string_bytes};
 ghost use Rattle.std.specs.Option.{option_map};
 ghost use Rattle.convoy_commands.specs.Replies.{SaysUnlessMemory, reply_of};
-ghost use Rattle.convoy_commands.specs.WithCeilings.{explain_says};
-ghost use Rattle.convoy_commands.specs.Withins.{SaysWithin};
-ghost use Rattle.convoy_commands.specs.declared.done.Done.TheVariants.{NotChecked};
-ghost use Rattle.convoy_tasks.specs.Tasks.{IsToldAtOnce, analyse_by, ceiling_by, ceilings_by, certificate_says, check_against, check_by, kinds_say, late_by, late_of_text, late_through, latency_by, latency_ceiled_by, latency_late_by, greatest_by, longest_for, longest_for_plan, of_scenario_says, of_workflow_says, outage_told, plan_says, scenario_says, scenario_wanted, search_says, survey_by, survey_through_by, task_says, telling_by, told_by, trace_of_says, trace_task_says};
+ghost use Rattle.convoy_tasks.specs.Tasks.{IsToldAtOnce, analyse_by, ceiling_by, ceilings_by, kinds_say, longest_for, longest_for_plan, plan_says, scenario_proof_by, scenario_says, scenario_wanted, search_says, task_says, telling_by, text_told, told_by, trace_of_says, trace_task_says};
 ghost use Rattle.convoy_commands.specs.declared.telling.Telling.TheVariants.{Toml};
 
+use super::certificates::answer_certificate;
+use super::latency::{answer_latency, outage_told};
 use super::scenario_text::answer_scenario;
+use super::surveying::answer_survey;
 use convoy_batches::{LONGEST_BATCH, batch_table_answer};
 use convoy_best_order::{Wanted, listing_answer, order_answer};
 use convoy_best_plan::{PlanWatch, placing_answer, plan_answer};
 use convoy_budget::budget_answer;
-use convoy_case_answers::{Late, latency_of_cases_answer};
 use convoy_commands::{
-    Answer, Asking, Fault, LONGEST_CERTIFICATE, LONGEST_JOB, Options, Telling, Watch,
-    analyse_answer, ask, ceiling_answer, explain_with_ceiling, first_answer, latency_answer,
-    ranges_answer, tell,
+    Answer, Fault, LONGEST_CERTIFICATE, LONGEST_JOB, Options, Telling, Watch, analyse_answer,
+    ceiling_answer, first_answer, ranges_answer, tell,
 };
-use convoy_outage_answers::{latency_through_answer, survey_through_answer};
+use convoy_finish_answers::finish_proof_answer;
+use convoy_finish_replies::scenario_text;
 use convoy_outages::Outage;
 use convoy_plan_ceilings::{ceiling_placing_answer, plan_ceiling_answer};
 use convoy_plan_checker::plan_check_answer;
@@ -26,39 +25,35 @@ use convoy_plan_proof::plan_proof_answer;
 use convoy_ranges::MOST_BYTES;
 use convoy_report::report_answer;
 use convoy_scenario::{Scenario, TimeUnit};
-use convoy_survey::{ceilings_answer, survey_answer};
+use convoy_survey::ceilings_answer;
 use convoy_sweep::{curve_told, sweep_told};
 use convoy_tables::Format;
-use convoy_task_list::{
-    CertificateTask, KindsTask, PlanTask, ScenarioTask, SearchTask, Task, TraceTask, outage_by,
-};
+use convoy_task_list::{KindsTask, PlanTask, ScenarioTask, SearchTask, Task, TraceTask};
 use convoy_text_answers::{
     answer_beside, answer_fits, answer_kinds, answer_trace_ranges, answer_trace_table,
-    answer_worst_kind, check_answer,
+    answer_worst_kind,
 };
-use convoy_toml::{Asked, WrittenTime, acceptances_of_text, outage_of_text};
+use convoy_toml::{Asked, accepts_by_text};
 use convoy_what_if::what_if_answer;
-use convoy_workflow_answers::{late_run_answer, workflow_latency_answer, workflow_proof_answer};
-use convoy_workflow_replies::{
-    Reference, ask_workflow, check_against_workflow, check_workflow_answer,
-    is_workflow_certificate, told_text,
-};
+use convoy_workflow_answers::{late_run_answer, workflow_proof_answer};
+use convoy_workflow_replies::{Reference, told_text};
 use convoy_workflows::is_workflow;
-use std::alloc::{AllocError, Global};
+use std::alloc::Global;
 use std::sync::Wait;
 use std::thread::Threads;
 
 /// Answers a task for a text: how it ends, what is to be written, and what is known besides. A certificate has to be of
-/// the scenario or the workflow that is wanted, if one is, and a trace of a run of that scenario; no other task looks at it. The rows of a table are made
-/// as many at a time as there are watches, and one search alone is watched by the first; [`NoGate`](convoy_branch::NoGate)
-/// is a watch where nobody watches. Who watches counts the seconds that the options give a search.
+/// the scenario or the workflow that is wanted, if one is, and a trace of a run of that scenario; no other task looks at it.
+/// The rows of a table are made as many at a time as there are watches, and one search alone is watched by the first;
+/// [`NoGate`](convoy_branch::NoGate) is a watch where nobody watches. Who watches counts the seconds that the options give
+/// a search.
 ///
 /// The faults are those of a text: `Fault::Scenario` where it is that of no scenario, where none of its groups has the
 /// name that is given, or where a change of it makes none; `Fault::Sweep` where its keys can't be given the values of a
 /// sweep; `Fault::Plan` where it is that of no plan, or of one that has no placement; `Fault::Kinds` where it is that of no
-/// kinds of messages; `Fault::Workflow` where it is that of no workflow; `Fault::Trace` where it is no trace of the scenario; `Fault::Outage` where outages are asked of it whose ticks
-/// are not known or too many, and `Fault::Replicas` where replicas are, likewise; `Fault::Schedule` and `Fault::Order` for a
-/// schedule that is none of it; `Fault::Reading` for a scenario of more than [`LONGEST_JOB`] bytes where a certificate may
+/// kinds of messages; `Fault::Workflow` where it is that of no workflow; `Fault::Trace` where it is no trace of the scenario;
+/// `Fault::Outage` where outages are asked of it whose ticks are not known or too many, and `Fault::Replicas` where replicas
+/// are, likewise; `Fault::Schedule` and `Fault::Order` for a schedule that is none of it; `Fault::Reading` for a scenario of more than [`LONGEST_JOB`] bytes where a certificate may
 /// be longer; `Fault::TooManyJobs`; and `Fault::Memory`.
 pub fn answer<R: Threads + Wait + Sync, W: PlanWatch + Sync>(
     rt: &R,
@@ -138,11 +133,21 @@ pub(crate) fn answer_at_once(
     }
 }
 
-/// What is told of a text: of a certificate of a workflow what is told of the certificate in it.
+/// What is told of a text: of a certificate of a workflow or of finishes what is told of the certificate in it.
 fn answer_run_told(alloc: Global, telling: Telling, text: &[u8]) -> Result<Answer, Fault>
     ensures { SaysUnlessMemory (told_by telling) text.now (reply_of result) }
 {
-    answer_telling(alloc, telling, told_text(text))
+    answer_telling(alloc, telling, text_told(telling, text))
+}
+
+/// The text of which that is told. No delivery is told of a certificate of finishes: it has another run in it.
+fn text_told(telling: Telling, text: &[u8]) -> &[u8]
+    ensures { result.now ≡ text_told telling text.now }
+{
+    match telling {
+        Telling::Simulate | Telling::Timeline => told_text(text),
+        Telling::Packets | Telling::Toml => scenario_text(text),
+    }
 }
 
 /// What is told of a scenario or of a certificate, or a late run of a workflow, where its scenario is asked for.
@@ -200,24 +205,6 @@ fn answer_ceiling(
 {
     let outage = outage_told(alloc, outage, text)?;
     ceiling_answer(alloc, simulations, outage, asked, unit, text)
-}
-
-/// The outages that are asked for: those of the option where it is given, and then the text is not looked at, or else those
-/// that its key `outage` tells.
-fn outage_told(
-    alloc: Global,
-    outage: Option<Outage>,
-    text: &[u8],
-) -> Result<Option<Outage>, AllocError>
-    ensures { IfOk result (λ told. told ≡ outage_told outage text.now) }
-{
-    match outage {
-        Some(outage) => Ok(Some(outage)),
-        None => match outage_of_text(alloc, text)? {
-            Some(time) => Ok(Some(outage_by(time))),
-            None => Ok(None),
-        },
-    }
 }
 
 /// What is found in a scenario by searches.
@@ -330,201 +317,26 @@ fn answer_proof<R: Threads + Wait + Sync, W: Watch + Sync>(
     if is_workflow {
         workflow_proof_answer(alloc, asked, text, options)
     } else {
+        answer_scenario_proof(rt, alloc, asked, options, text, watch)
+    }
+}
+
+/// A certificate of a scenario, or of finishes where its groups are replicated by white box.
+fn answer_scenario_proof<R: Threads + Wait + Sync, W: Watch + Sync>(
+    rt: &R,
+    alloc: Global,
+    asked: &Asked,
+    options: &Options,
+    text: &[u8],
+    watch: &W,
+) -> Result<Answer, Fault>
+    ensures { SaysUnlessMemory (scenario_proof_by asked.now options.now) text.now (reply_of result) }
+{
+    let accepts = accepts_by_text(alloc, text)?;
+    if accepts {
+        finish_proof_answer(rt, alloc, asked, options, text, watch)
+    } else {
         analyse_answer(rt, alloc, asked, text, options, watch)
-    }
-}
-
-/// The greatest latency with what the option or the text tells that keeps the target back; or, where the ceiling is asked for
-/// as well, that of one scenario, with its ceiling below it.
-fn answer_latency<R: Threads + Wait + Sync, W: Watch + Sync>(
-    rt: &R,
-    alloc: Global,
-    with_ceiling: bool,
-    outage: Option<Outage>,
-    accept: Option<WrittenTime>,
-    asked: &Asked,
-    options: &Options,
-    text: &[u8],
-    watch: &W,
-) -> Result<Answer, Fault>
-    ensures { SaysUnlessMemory (latency_by accept outage with_ceiling asked.now options.now) text.now
-        (reply_of result) }
-{
-    if with_ceiling {
-        let outage = outage_told(alloc, outage, text)?;
-        answer_ceiled(rt, alloc, outage, asked, options, text, watch)
-    } else {
-        let late = late_by(alloc, accept, outage, text)?;
-        answer_late(rt, alloc, &late, asked, options, text, watch)
-    }
-}
-
-/// The greatest latency with the ceiling below it, and with what none is above through outages where these are asked for.
-fn answer_ceiled<R: Threads + Wait + Sync, W: Watch + Sync>(
-    rt: &R,
-    alloc: Global,
-    outage: Option<Outage>,
-    asked: &Asked,
-    options: &Options,
-    text: &[u8],
-    watch: &W,
-) -> Result<Answer, Fault>
-    ensures { SaysUnlessMemory (latency_ceiled_by outage asked.now options.now) text.now (reply_of result) }
-{
-    match outage {
-        Some(outage) => {
-            latency_through_answer(rt, alloc, true, outage, asked, text, options, watch)
-        }
-        None => latency_answer(rt, alloc, true, asked, text, options, watch),
-    }
-}
-
-/// What keeps the target back, by an option or else by the text.
-fn late_by(
-    alloc: Global,
-    accept: Option<WrittenTime>,
-    outage: Option<Outage>,
-    text: &[u8],
-) -> Result<Late, AllocError>
-    ensures { IfOk result (λ late. late ≡ late_by accept outage text.now) }
-{
-    match (accept, outage) {
-        (Some(span), _) => Ok(Late::Answers(Some(span))),
-        (None, Some(outage)) => Ok(Late::Outages(outage)),
-        (None, None) => late_of_text(alloc, text),
-    }
-}
-
-/// What does by the text alone: the answers of replicas where its groups are replicated by white box, and else the outages
-/// that it tells, if it does.
-fn late_of_text(alloc: Global, text: &[u8]) -> Result<Late, AllocError>
-    ensures { IfOk result (λ late. late ≡ late_of_text text.now) }
-{
-    let acceptances = acceptances_of_text(alloc, text)?;
-    if acceptances.is_empty() {
-        let outage = outage_told(alloc, None, text)?;
-        Ok(late_through(outage))
-    } else {
-        Ok(Late::Answers(None))
-    }
-}
-
-/// What does where these outages are asked for.
-fn late_through(outage: Option<Outage>) -> Late
-    ensures { result ≡ late_through outage }
-{
-    match outage {
-        Some(outage) => Late::Outages(outage),
-        None => Late::Nothing,
-    }
-}
-
-/// The greatest latency with what keeps the target back, where something does; else of a workflow, where the text is that of
-/// one.
-fn answer_late<R: Threads + Wait + Sync, W: Watch + Sync>(
-    rt: &R,
-    alloc: Global,
-    late: &Late,
-    asked: &Asked,
-    options: &Options,
-    text: &[u8],
-    watch: &W,
-) -> Result<Answer, Fault>
-    ensures { SaysUnlessMemory (latency_late_by late.now asked.now options.now) text.now (reply_of result) }
-{
-    match late {
-        Late::Nothing => answer_greatest(rt, alloc, asked, options, text, watch),
-        Late::Outages(_) | Late::Answers(_) => {
-            latency_of_cases_answer(rt, alloc, late, asked, text, options, watch)
-        }
-    }
-}
-
-/// The greatest latency: of a workflow, where the text is that of one, and else in all cases of a scenario text.
-fn answer_greatest<R: Threads + Wait + Sync, W: Watch + Sync>(
-    rt: &R,
-    alloc: Global,
-    asked: &Asked,
-    options: &Options,
-    text: &[u8],
-    watch: &W,
-) -> Result<Answer, Fault>
-    ensures { SaysUnlessMemory (greatest_by asked.now options.now) text.now (reply_of result) }
-{
-    if is_workflow(alloc, text)? {
-        workflow_latency_answer(alloc, asked, text, options)
-    } else {
-        latency_of_cases_answer(rt, alloc, &Late::Nothing, asked, text, options, watch)
-    }
-}
-
-/// The greatest latencies of all targets, and what none is above through outages where the option or the text tells some.
-fn answer_survey<R: Threads + Wait + Sync, W: Watch + Sync>(
-    rt: &R,
-    alloc: Global,
-    format: Format,
-    with_ceilings: bool,
-    outage: Option<Outage>,
-    asked: &Asked,
-    options: &Options,
-    text: &[u8],
-    watches: &[W],
-) -> Result<Answer, Fault>
-    requires { 0 < length watches.now }
-    ensures { SaysUnlessMemory (survey_by outage format with_ceilings asked.now options.now) text.now (reply_of result) }
-{
-    let outage = outage_told(alloc, outage, text)?;
-    survey_through(
-        rt,
-        alloc,
-        format,
-        with_ceilings,
-        outage,
-        asked,
-        options,
-        text,
-        watches,
-    )
-}
-
-/// The greatest latencies of all targets, and what none is above through outages where these are asked for.
-fn survey_through<R: Threads + Wait + Sync, W: Watch + Sync>(
-    rt: &R,
-    alloc: Global,
-    format: Format,
-    with_ceilings: bool,
-    outage: Option<Outage>,
-    asked: &Asked,
-    options: &Options,
-    text: &[u8],
-    watches: &[W],
-) -> Result<Answer, Fault>
-    requires { 0 < length watches.now }
-    ensures { SaysUnlessMemory (survey_through_by outage format with_ceilings asked.now options.now) text.now
-        (reply_of result) }
-{
-    match outage {
-        Some(outage) => survey_through_answer(
-            rt,
-            alloc,
-            format,
-            with_ceilings,
-            outage,
-            asked,
-            options,
-            text,
-            watches,
-        ),
-        None => survey_answer(
-            rt,
-            alloc,
-            format,
-            with_ceilings,
-            asked,
-            options,
-            text,
-            watches,
-        ),
     }
 }
 
@@ -573,108 +385,6 @@ fn answer_plan<R: Threads + Wait + Sync, W: PlanWatch + Sync>(
     }
 }
 
-/// What a certificate answers, of a workflow or of a scenario.
-fn answer_certificate(
-    alloc: Global,
-    what: CertificateTask,
-    wanted: Option<&Reference>,
-    unit: Option<TimeUnit>,
-    limit: Option<u64>,
-    text: &[u8],
-) -> Result<Answer, Fault>
-    ensures { SaysUnlessMemory
-        (certificate_says what (option_map (λ r. r.now) wanted.entry) unit limit) text.now
-        (reply_of result) }
-{
-    if is_workflow_certificate(text) {
-        answer_of_workflow(alloc, what, wanted, unit, text)
-    } else {
-        answer_of_run(alloc, what, wanted, unit, limit, text)
-    }
-}
-
-/// What the certificate of a workflow answers.
-fn answer_of_workflow(
-    alloc: Global,
-    what: CertificateTask,
-    wanted: Option<&Reference>,
-    unit: Option<TimeUnit>,
-    text: &[u8],
-) -> Result<Answer, Fault>
-    ensures { SaysUnlessMemory
-        (of_workflow_says what (option_map (λ r. r.now) wanted.entry) unit) text.now
-        (reply_of result) }
-{
-    match what {
-        CertificateTask::Check { tells } => {
-            check_workflow_answer(alloc, wanted, tells, unit, text)
-        }
-        CertificateTask::Explain { .. } => ask_workflow(alloc, Asking::Explain(unit), text),
-        CertificateTask::Draw => ask_workflow(alloc, Asking::Draw(unit), text),
-    }
-}
-
-/// What the certificate of a scenario answers.
-fn answer_of_run(
-    alloc: Global,
-    what: CertificateTask,
-    wanted: Option<&Reference>,
-    unit: Option<TimeUnit>,
-    limit: Option<u64>,
-    text: &[u8],
-) -> Result<Answer, Fault>
-    ensures { SaysUnlessMemory
-        (of_scenario_says what (option_map (λ r. r.now) wanted.entry) unit limit) text.now
-        (reply_of result) }
-{
-    match what {
-        CertificateTask::Check { tells } => answer_check(alloc, wanted, tells, unit, limit, text),
-        CertificateTask::Explain { with_ceiling } => {
-            answer_explain(alloc, with_ceiling, unit, limit, text)
-        }
-        CertificateTask::Draw => ask(alloc, Asking::Draw(unit), limit, text),
-    }
-}
-
-/// Whether the certificate of a scenario is valid, and is of what is wanted, if something is.
-fn answer_check(
-    alloc: Global,
-    wanted: Option<&Reference>,
-    tells: bool,
-    unit: Option<TimeUnit>,
-    limit: Option<u64>,
-    text: &[u8],
-) -> Result<Answer, Fault>
-    ensures { SaysUnlessMemory
-        (SaysWithin limit NotChecked (check_by (option_map (λ r. r.now) wanted.entry) tells unit)) text.now
-        (reply_of result) }
-{
-    match wanted {
-        Some(reference) => check_against(alloc, reference, tells, unit, limit, text),
-        None => check_answer(alloc, None, tells, unit, limit, text),
-    }
-}
-
-/// Whether it is valid, and is of that.
-fn check_against(
-    alloc: Global,
-    reference: &Reference,
-    tells: bool,
-    unit: Option<TimeUnit>,
-    limit: Option<u64>,
-    text: &[u8],
-) -> Result<Answer, Fault>
-    ensures { SaysUnlessMemory (SaysWithin limit NotChecked (check_against reference.now tells unit)) text.now
-        (reply_of result) }
-{
-    match reference {
-        Reference::Scenario(scenario) => {
-            check_answer(alloc, Some(scenario), tells, unit, limit, text)
-        }
-        Reference::Workflow(_) => check_against_workflow(alloc, limit, text),
-    }
-}
-
 /// What kinds of messages answer.
 fn answer_of_kinds(
     alloc: Global,
@@ -703,13 +413,13 @@ fn answer_trace(
     answer_trace_of(alloc, what, scenario_in(wanted), text)
 }
 
-/// The scenario that is wanted, if one is: no trace is asked to be one of a workflow.
+/// The scenario that is wanted, if one is: no trace is asked to be one of something else.
 fn scenario_in(wanted: Option<&Reference>) -> Option<&Scenario>
     ensures { option_map (λ s. s.now) result ≡ scenario_wanted (option_map (λ r. r.now) wanted.entry) }
 {
     match wanted {
         Some(Reference::Scenario(scenario)) => Some(scenario),
-        Some(Reference::Workflow(_)) | None => None,
+        Some(Reference::Accepted(_) | Reference::Workflow(_)) | None => None,
     }
 }
 
@@ -728,24 +438,6 @@ fn answer_trace_of(
         TraceTask::Ranges { rules, unit } => answer_trace_ranges(alloc, rules, *unit, text),
         TraceTask::Table { format, unit } => answer_trace_table(alloc, *format, *unit, text),
         TraceTask::Beside { format, unit } => answer_beside(alloc, wanted, *format, *unit, text),
-    }
-}
-
-/// The explanation of a certificate, and below it the ceiling where that is asked for.
-fn answer_explain(
-    alloc: Global,
-    with_ceiling: bool,
-    unit: Option<TimeUnit>,
-    limit: Option<u64>,
-    text: &[u8],
-) -> Result<Answer, Fault>
-    ensures { SaysUnlessMemory (SaysWithin limit NotChecked (explain_says with_ceiling unit)) text.now
-        (reply_of result) }
-{
-    if with_ceiling {
-        explain_with_ceiling(alloc, unit, limit, text)
-    } else {
-        ask(alloc, Asking::Explain(unit), limit, text)
     }
 }
 

@@ -86,13 +86,15 @@ pub fn run_timeline<S: Source, K: Sink>(
 }
 
 /// The command `check`: reads the text of a certificate to the end of the source, and writes the yes
-/// with the latency that is the greatest of its scenario, or with the greatest time of its workflow, or the
-/// first fault for which the certificate is refused (docs/FORMATS.md, "What `check` writes").
+/// with the latency that is the greatest of its scenario, where replicas have to answer too if it is one of finishes, or
+/// with the greatest time of its workflow, or the first fault for which the certificate is refused (docs/FORMATS.md, "What
+/// `check` writes").
 ///
 /// At most `most_reads` reads are made, and where there is a `limit` at most so many steps are taken (docs/FORMATS.md,
 /// "Steps"): where checking takes more it ends as `Done::NotChecked`, and the line that says so is written.
 /// Nothing is written before the answer is known. It ends as `Done::Fine` or, with the refusal, as
-/// `Done::Refused`; of a certificate of a workflow, whose steps are not counted, as `Done::WorkflowRefused`.
+/// `Done::Refused`; of a certificate of a workflow or of finishes, whose steps are not counted, as `Done::WorkflowRefused`
+/// or `Done::FinishRefused`.
 /// The faults are `Fault::Reading` and `Fault::Write` as of [`run_first`](super::run_first), but with the
 /// limit [`LONGEST_CERTIFICATE`](convoy_commands::LONGEST_CERTIFICATE), and `Fault::Memory`.
 pub fn run_check<S: Source, K: Sink>(
@@ -125,8 +127,10 @@ pub fn run_check<S: Source, K: Sink>(
 /// latency LEAST. Nobody watches this search, so seconds in the options do not stop it: for that there
 /// is [`run_task`](super::run_task).
 ///
-/// For a workflow it is the certificate of its greatest time, or where that is not known what
-/// [`workflow_proof_answer`](convoy_workflow_answers::workflow_proof_answer) writes in its place.
+/// For a workflow it is the certificate of its greatest time, and where groups are replicated by white box that of the
+/// greatest latency until their replicas have answered, or where that is not known what
+/// [`workflow_proof_answer`](convoy_workflow_answers::workflow_proof_answer) and
+/// [`finish_proof_answer`](convoy_finish_answers::finish_proof_answer) write in its place.
 ///
 /// Where the text gives the target a deadline the same is written, and it ends as [`run_latency`] does.
 ///

@@ -11,8 +11,11 @@ pub use wanted::read_reference;
 
 mod answering;
 mod calls;
+mod certificates;
 mod ended;
+mod latency;
 mod running;
 mod scenario_text;
+mod surveying;
 pub mod task_laws;
 mod wanted;

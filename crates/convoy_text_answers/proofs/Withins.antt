@@ -14,7 +14,7 @@ use Rattle.convoy_checker.specs.declared.refused.Refused.TheVariants as checks
 use Rattle.convoy_checker.specs.declared.refusal.Refusal.TheVariants as refusals
 use Rattle.convoy_commands.specs.declared.asking.Asking.TheVariants.{Check}
 use Rattle.convoy_commands.specs.declared.done.Done.{Done}
-use Rattle.convoy_commands.specs.declared.done.Done.TheVariants.{Fine, Open, Beyond, Faulty, Refused, PlanRefused, WorkflowRefused, Differs, Departs, NotChecked}
+use Rattle.convoy_commands.specs.declared.done.Done.TheVariants.{Fine, Open, Beyond, Faulty, Refused, PlanRefused, WorkflowRefused, FinishRefused, Differs, Departs, NotChecked}
 use Rattle.convoy_commands.specs.Asks.{AskSays}
 use Rattle.convoy_commands.specs.Checks.{IsAccepted, check_reply, reply_of_check, reply_of_text}
 use Rattle.convoy_commands.specs.Replies.{IsReply, Reply, SaysUnlessMemory}
@@ -76,6 +76,7 @@ as_check wanted tells unit text out Faulty not says = says
 as_check wanted tells unit text out (Refused refusal) not says = says
 as_check wanted tells unit text out PlanRefused not says = says
 as_check wanted tells unit text out WorkflowRefused not says = says
+as_check wanted tells unit text out FinishRefused not says = says
 as_check wanted tells unit text out (Differs part) not says = absurd (never_differs text out part says)
 as_check wanted tells unit text out Departs not says = says
 as_check wanted tells unit text out NotChecked not says = says

@@ -14,7 +14,7 @@ use Rattle.convoy_certificate.specs.CertificateLaws.{TextsDiffer}
 use Rattle.convoy_certificate.specs.Reading.{IsTextOf}
 use Rattle.convoy_checker.specs.Validity.{IsValid}
 use Rattle.convoy_commands.specs.declared.done.Done.{Done}
-use Rattle.convoy_commands.specs.declared.done.Done.TheVariants.{Fine, Open, Beyond, Faulty, Refused, PlanRefused, WorkflowRefused, Differs, Departs, NotChecked}
+use Rattle.convoy_commands.specs.declared.done.Done.TheVariants.{Fine, Open, Beyond, Faulty, Refused, PlanRefused, WorkflowRefused, FinishRefused, Differs, Departs, NotChecked}
 use Rattle.convoy_commands.specs.declared.fault.Fault.{Fault}
 use Rattle.convoy_commands.specs.declared.asking.Asking.TheVariants.{Check}
 use Rattle.convoy_commands.specs.Asks.{AskSays}
@@ -129,6 +129,8 @@ yes_is_given differ certificate tells unit text PlanRefused out is spelled valid
     absurd (no_yes certificate text out PlanRefused (λ is. cc) is spelled valid said)
 yes_is_given differ certificate tells unit text WorkflowRefused out is spelled valid said =
     absurd (no_yes certificate text out WorkflowRefused (λ is. cc) is spelled valid said)
+yes_is_given differ certificate tells unit text FinishRefused out is spelled valid said =
+    absurd (no_yes certificate text out FinishRefused (λ is. cc) is spelled valid said)
 yes_is_given differ certificate tells unit text Departs out is spelled valid said =
     absurd (no_yes certificate text out Departs (λ is. cc) is spelled valid said)
 yes_is_given differ certificate tells unit text NotChecked out is spelled valid said =

@@ -18,7 +18,7 @@ use Rattle.convoy_lines.specs.Results.{◌>>=◌}
 use Rattle.convoy_toml.specs.Around.{asked_around}
 use Rattle.convoy_toml.specs.Deadlines.{deadlines_of_written}
 use Rattle.convoy_toml.specs.Outside.{LinkShare, shares_of_table}
-use Rattle.convoy_toml.specs.Shape.{Written, WrittenAcceptance, WrittenScenario, acceptances_of_table, outage_of_table, time_of_table, unit_of_table}
+use Rattle.convoy_toml.specs.Shape.{Written, WrittenAcceptance, WrittenScenario, acceptances_of_table, accepts_by_table, outage_of_table, time_of_table, unit_of_table}
 use Rattle.convoy_toml.specs.Slow.{written_of_table}
 use Rattle.convoy_toml.specs.declared.written.WrittenTime.{WrittenTime}
 use Rattle.convoy_toml.specs.Times.{draft_of_written}
@@ -114,6 +114,10 @@ outage_of_text text = option_and_then outage_in (result_ok (table_of_text text))
 -- the groups that are replicated by white box, where the tables of groups of a text say so; none where it is no table
 abbrev pub acceptances_of_text : List ℕ → List WrittenAcceptance
 acceptances_of_text text = option_map_or acceptances_of_table (result_ok (table_of_text text)) []
+
+-- some table of groups of a text says that they are replicated by white box
+abbrev pub accepts_by_text : List ℕ → Bool
+accepts_by_text text = option_map_or accepts_by_table (result_ok (table_of_text text)) false
 
 -- what was read, with schedule and order as lists
 abbrev pub input_read : Result Input ScenarioFault → Result InputView ScenarioFault

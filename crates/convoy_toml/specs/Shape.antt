@@ -344,10 +344,15 @@ accept_word = codes "accept"
 abbrev pub is_accepting : Members → Bool
 is_accepting table = option_map_or (bytes_eq accept_word) (option_and_then as_str (get_member (key_word Steps) table)) false
 
+-- it has to say so
+abbrev pub need_accept : Members → Result (Unit {0}) ScenarioFault
+need_accept table = if is_accepting table then Ok tt else Err (Shape Steps)
+
 -- groups that are replicated by white box as it is written
 unfoldable pub acceptance_of_table : AnyTime → Members → Result WrittenAcceptance ScenarioFault
 acceptance_of_table time table = do
   groups ← need Name as_names table
+  _ ← need_accept table
   replicas ← need Replicas (as_long time) table
   _ ← need_only (Name ∷ Steps ∷ Replicas ∷ []) table
   Ok (record { groups = groups; replicas = replicas })
@@ -393,6 +398,10 @@ acceptances_told time tables = if list_any is_accepting tables then unwrap_or (r
 -- the same of a scenario's table
 abbrev pub acceptances_of_table : Members → List WrittenAcceptance
 acceptances_of_table table = unwrap_or (result_ok (time_of_table table >>= λ time. group_tables table >>= λ tables. Ok (acceptances_told time tables))) []
+
+-- some table of groups of a scenario's table says that they are replicated by white box
+abbrev pub accepts_by_table : Members → Bool
+accepts_by_table table = option_map_or (list_any is_accepting) (result_ok (group_tables table)) false
 
 -- the target that is written in a scenario's table
 abbrev pub written_target : Members → Result WrittenTarget ScenarioFault

@@ -1,9 +1,10 @@
-ghost use Rattle.std.specs.Prelude.{◌≡◌};
+ghost use Rattle.std.specs.Prelude.{◌≡◌, IfOk};
 ghost use Rattle.convoy_toml.specs.Reading.{as_written, of_any_target};
 
 use super::around::Around;
 use super::target::TargetKey;
 use super::written::WrittenTime;
+use std::alloc::AllocError;
 
 /// What is asked of a scenario text beside what the text says.
 #[derive(Drop)]
@@ -50,5 +51,17 @@ impl Asked {
             case: None,
             accept: false,
         }
+    }
+    /// The same, in memory of its own. Fails where memory runs out, and else never.
+    pub fn copy(&self) -> Result<Asked, AllocError>
+        ensures { IfOk result (λ copy. copy ≡ self.now) }
+    {
+        Ok(Asked {
+            target: self.target.copy()?,
+            at_most: self.at_most,
+            around: self.around,
+            case: self.case,
+            accept: self.accept,
+        })
     }
 }

@@ -12,9 +12,11 @@ ghost use Rattle.convoy_toml.specs.Cases.{at_groups, cases_from, cases_of_table,
 ghost use Rattle.convoy_toml.specs.Shape.{listed, need_all};
 
 use super::asked::Asked;
+use super::keys::tables;
+use super::messages::sender_count;
 use super::placed::Placed;
 use super::read::read_table;
-use super::shape::{sender_count, shape_of_table, tables};
+use super::shape::shape_of_table;
 use super::target::{ALL_GROUPS, message_named};
 use super::written::{WrittenScenario, WrittenTarget};
 use convoy_scenario::{Key, Name, ScenarioFault};

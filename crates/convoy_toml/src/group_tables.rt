@@ -8,13 +8,12 @@ ghost use Rattle.toml.specs.Data.{as_str};
 ghost use Rattle.toml.specs.View.{view, array_view, table_view};
 ghost use Rattle.convoy_draft.specs.Checks.{all_differ, is_among};
 ghost use Rattle.convoy_scenario.specs.Memory.{IsUnlessMemory};
-ghost use Rattle.convoy_toml.specs.Shape.{accept_word, accepting_groups, acceptance_of_table, acceptances_in, acceptances_of_table, acceptances_told, agreement_of_table, agreements_in, agreements_of_table, agreements_unless, as_long, as_names, as_range, as_steps, group_tables, is_accepting, listed, need, need_accepting, steps_of_table, tables_listed, twice_named};
+ghost use Rattle.convoy_toml.specs.Shape.{accept_word, accepting_groups, acceptance_of_table, acceptances_in, acceptances_of_table, acceptances_told, accepts_by_table, agreement_of_table, agreements_in, agreements_of_table, agreements_unless, as_long, as_names, as_range, as_steps, group_tables, is_accepting, listed, need, need_accept, need_accepting, steps_of_table, tables_listed, twice_named};
 
 use super::copying::copy_names;
+use super::durations::{time_lasting, time_of_table, time_written};
+use super::keys::{names_told, need_only, tables_of, value_at};
 use super::placed::{Placed, ScenarioTable, in_table};
-use super::shape::{
-    names_told, need_only, tables_of, time_lasting, time_of_table, time_written, value_at,
-};
 use super::written::{WrittenAcceptance, WrittenAgreement, WrittenTime};
 use convoy_scenario::{Key, Name, ScenarioFault, Time};
 use std::alloc::{AllocError, Global};
@@ -158,6 +157,18 @@ fn is_accept_word(value: &Value) -> bool
     }
 }
 
+/// Whether a table of groups of a scenario's table says that they are replicated by white box. Fails where memory runs
+/// out, and else never.
+pub(crate) fn accepts_by_table(alloc: Global, table: &Table) -> Result<bool, AllocError>
+    ensures { IfOk result (λ accepts. accepts ≡ accepts_by_table (table_view table.now)) }
+{
+    match group_tables(alloc, table) {
+        Ok(tables) => Ok(some_accept(&tables)),
+        Err(ScenarioFault::Memory) => Err(AllocError),
+        Err(_) => Ok(false),
+    }
+}
+
 /// The groups that are replicated by white box, and how far their replicas are, where the tables of groups of a scenario's
 /// table say so; none where one is at fault.
 pub(crate) fn acceptances_of_table(
@@ -222,9 +233,21 @@ fn acceptance_of_table(
     ensures { IsUnlessMemory ScenarioFault.Memory (acceptance_of_table time (table_view table.now)) result }
 {
     let groups = groups_of_table(alloc, table)?;
+    need_accept(table)?;
     let replicas = replicas_of_table(table, time)?;
     need_only(table, &[Key::Name, Key::Steps, Key::Replicas])?;
     Ok(WrittenAcceptance { groups, replicas })
+}
+
+/// The table says of its groups that they are replicated by white box.
+fn need_accept(table: &Table) -> Result<(), ScenarioFault>
+    ensures { result ≡ need_accept (table_view table.now) }
+{
+    if is_accepting(table) {
+        Ok(())
+    } else {
+        Err(ScenarioFault::Shape(Key::Steps))
+    }
 }
 
 /// What a packet between the leader of a group and its replicas takes at most.

@@ -10,17 +10,18 @@ pub use cases::{MOST_CASES, cases_of_text, targets_of_text};
 pub use copying::{copy_agreements, copy_ends, copy_name, copy_names};
 pub use deadlines::{GREATEST_DEADLINE, deadlines_of_written};
 pub use divisor::common_divisor;
+pub use durations::{time_of_table, unit_of_table};
 pub use input::Input;
 pub use links::{MOST_WRITTEN_LINKS, links_of_bundle};
 pub use outside::LinkShare;
 pub use placed::{Placed, ScenarioTable};
 pub use plain::PlainNumber;
 pub use read::{
-    acceptances_of_text, outage_of_text, read_table, read_toml, read_toml_asked,
+    acceptances_of_text, accepts_by_text, outage_of_text, read_table, read_toml, read_toml_asked,
     scenario_of_written,
 };
 pub use replies::reply_of_text;
-pub use shape::{scenario_of_table, setting_of_table, time_of_table, unit_of_table};
+pub use shape::{scenario_of_table, setting_of_table};
 pub use share::WHOLE_SHARE;
 pub use slow::{scenario_without_slow, written_of_table};
 pub use target::TargetKey;
@@ -39,9 +40,13 @@ mod cases;
 mod copying;
 mod deadlines;
 mod divisor;
+mod durations;
 mod group_tables;
 mod input;
+mod keys;
+mod link_tables;
 mod links;
+mod messages;
 mod outside;
 mod placed;
 mod plain;

@@ -7,7 +7,8 @@ ghost use Rattle.convoy_scenario.specs.Memory.{IsUnlessMemory};
 ghost use Rattle.convoy_toml.specs.Outside.{LinkShare, if_shared, share_in, shares_in, shares_of_table};
 ghost use Rattle.convoy_toml.specs.Shape.{listed};
 
-use super::shape::{ends_of_table, share_of_table, tables};
+use super::keys::tables;
+use super::link_tables::{ends_of_table, share_of_table};
 use super::written::LinkEnds;
 use convoy_scenario::{Key, ScenarioFault};
 use std::alloc::Global;

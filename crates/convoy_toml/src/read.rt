@@ -3,19 +3,19 @@ ghost use Rattle.std.specs.Result.{result_map_both};
 ghost use Rattle.toml.specs.View.{table_view};
 ghost use Rattle.convoy_draft.specs.declared.fault.ScenarioFault.TheVariants.{Memory};
 ghost use Rattle.convoy_scenario.specs.Memory.{IsUnlessMemory};
-ghost use Rattle.convoy_toml.specs.Reading.{acceptances_of_text, deadlines_of_text, input_of_written, scenario_of_written, table_of_text, input_of_text, input_of_text_by, input_read, outage_in, outage_of_text, scenario_of_text, scenario_of_text_by, scenario_read, shares_of_text, unit_written};
+ghost use Rattle.convoy_toml.specs.Reading.{acceptances_of_text, accepts_by_text, deadlines_of_text, input_of_written, scenario_of_written, table_of_text, input_of_text, input_of_text_by, input_read, outage_in, outage_of_text, scenario_of_text, scenario_of_text_by, scenario_read, shares_of_text, unit_written};
 ghost use Rattle.convoy_toml.specs.Deadlines.{deadlines_of_written};
 ghost use Rattle.convoy_toml.specs.Reading.{as_written};
 
 use super::around::asked_around;
 use super::asked::Asked;
 use super::deadlines::deadlines_of_written;
-use super::group_tables::acceptances_of_table;
+use super::durations::{outage_of_table, time_of_table, unit_of_table};
+use super::group_tables::{acceptances_of_table, accepts_by_table};
 use super::input::Input;
 use super::outside::{LinkShare, shares_of_table};
 use super::placed::Placed;
 use super::plain::plain_number;
-use super::shape::{outage_of_table, time_of_table, unit_of_table};
 use super::slow::written_of_table;
 use super::times::draft_of_written;
 use super::ways::has_ranges;
@@ -106,6 +106,18 @@ pub fn acceptances_of_text(alloc: Global, text: &[u8]) -> Result<Vec<WrittenAcce
         Ok(table) => acceptances_of_table(alloc, &table),
         Err(ScenarioFault::Memory) => Err(AllocError),
         Err(_) => Ok(Vec::new(alloc)),
+    }
+}
+
+/// Whether a table of groups of a scenario text says that they are replicated by white box, faulty or not
+/// (docs/FORMATS.md, "Groups replicated by white box"). Fails where memory runs out, and else never.
+pub fn accepts_by_text(alloc: Global, text: &[u8]) -> Result<bool, AllocError>
+    ensures { IfOk result (λ accepts. accepts ≡ accepts_by_text text.now) }
+{
+    match read_table(alloc, text) {
+        Ok(table) => accepts_by_table(alloc, &table),
+        Err(ScenarioFault::Memory) => Err(AllocError),
+        Err(_) => Ok(false),
     }
 }
 

@@ -7,9 +7,10 @@ ghost use Rattle.convoy_scenario.specs.Memory.{IsUnlessMemory};
 ghost use Rattle.convoy_toml.specs.Replies.{client_of_table, most_of_way, reply_of_text, reply_of_written, time_back, way_back};
 
 use super::asked::Asked;
+use super::keys::value_at;
 use super::placed::Placed;
 use super::read::read_table;
-use super::shape::{reply_of_target, shape_of_table, value_at};
+use super::shape::{reply_of_target, shape_of_table};
 use super::slow::range_along;
 use super::ways::Way;
 use super::written::{WrittenRange, WrittenScenario, WrittenTime};

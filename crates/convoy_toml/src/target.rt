@@ -18,6 +18,24 @@ pub enum TargetKey {
     Named { message: Name, group: Name },
 }
 
+impl TargetKey {
+    ghost use Rattle.std.specs.Prelude.{◌≡◌, IfOk};
+
+    /// The same, in memory of its own. Fails where memory runs out, and else never.
+    pub fn copy(&self) -> Result<TargetKey, AllocError>
+        ensures { IfOk result (λ copy. copy ≡ self.now) }
+    {
+        match self {
+            TargetKey::Required => Ok(TargetKey::Required),
+            TargetKey::Optional => Ok(TargetKey::Optional),
+            TargetKey::Named { message, group } => Ok(TargetKey::Named {
+                message: message.copy()?,
+                group: group.copy()?,
+            }),
+        }
+    }
+}
+
 /// The first message that is issued at a time that is written, or the first of all where there is none
 /// such, at the first group that it goes to; where it goes nowhere, at the first group of all.
 pub fn first_target(

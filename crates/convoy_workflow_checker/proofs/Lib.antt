@@ -1,6 +1,3 @@
 mod Greatest
 mod Origins
 mod InTurn
-mod Plain
-mod LineTexts
-mod Told

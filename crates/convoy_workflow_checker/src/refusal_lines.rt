@@ -1,15 +1,12 @@
 //! The line that tells why a certificate of a workflow is refused.
 
-ghost use Rattle.std.specs.Prelude.{◌≡◌, ℕ, ◌<◌, ◌^◌, IfOk, string_bytes};
-ghost use Rattle.convoy_scenario_lines.specs.declared.line_fault.Expected.{Expected};
-ghost use Rattle.convoy_certificate.specs.declared.text_fault.TextFault.TheVariants.{Line};
-ghost use Rattle.convoy_commands.specs.Refusals.{refused_line, row_of_text as row_of_fault};
+ghost use Rattle.std.specs.Prelude.{◌≡◌, IfOk, string_bytes};
+ghost use Rattle.convoy_commands.specs.Refusals.{refused_line};
 ghost use Rattle.convoy_workflow_checker.specs.RefusalLines.{row_of_check, row_of_refusal, row_of_text, workflow_line_word};
 
 use super::workflow_refusal::WorkflowRefusal;
 use super::workflow_refused::WorkflowRefused;
-use convoy_certificate::TextFault;
-use convoy_commands::answer_to_fault;
+use convoy_commands::text_fault_line;
 use convoy_workflow_certificate::{WorkflowLine, WorkflowTextFault};
 use std::alloc::{AllocError, Global};
 
@@ -33,42 +30,9 @@ fn line_of_text(alloc: Global, fault: WorkflowTextFault) -> Result<String, Alloc
             let word = word_of_line(expected);
             format!(in alloc; "refused 20 line {number} expected {word}\n")
         }
-        WorkflowTextFault::Certificate(fault) => line_of_certificate(alloc, fault),
+        WorkflowTextFault::Certificate(fault) => text_fault_line(alloc, fault),
         WorkflowTextFault::Spelling => String::from_str(alloc, "refused 80 spelling\n"),
         WorkflowTextFault::Memory => String::from_str(alloc, "refused 11 out of memory\n"),
-    }
-}
-
-/// The line of a fault of what stands below the lines of the workflow, as of a certificate.
-fn line_of_certificate(alloc: Global, fault: TextFault) -> Result<String, AllocError>
-    ensures { IfOk result (λ line. string_bytes line ≡ refused_line (row_of_fault fault)) }
-{
-    match fault {
-        TextFault::Memory => String::from_str(alloc, "refused 11 out of memory\n"),
-        other => line_told(alloc, other),
-    }
-}
-
-/// The line that is told of this fault where the text is that of a certificate alone.
-fn line_told(alloc: Global, fault: TextFault) -> Result<String, AllocError>
-    ensures { IfOk result (λ line. string_bytes line ≡ refused_line (row_of_fault fault)) }
-{
-    number_fits(fault);
-    let Ok(answer) = answer_to_fault(alloc, fault) else {
-        return Err(AllocError);
-    };
-    match String::from_utf8(answer.text) {
-        Ok(line) => Ok(line),
-        Err(_) => unreachable!(),
-    }
-}
-
-/// The number of a line has 64 bits.
-fn number_fits(fault: TextFault)
-    ensures { (number : ℕ) (expected : Expected) → fault ≡ Line number expected → number < 2 ^ 64 }
-{
-    if let TextFault::Line(number, _) = fault {
-        let _number = number;
     }
 }
 

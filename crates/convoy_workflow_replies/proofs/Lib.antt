@@ -1,2 +1,2 @@
-mod AgainstWorkflows
+mod OfOthers
 mod Explained

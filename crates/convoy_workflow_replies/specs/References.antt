@@ -39,11 +39,13 @@ DiffersFromWorkflow workflow certificate part =
 -- it is of that: of a scenario none is, since there no message follows another
 abbrev pub IsOf : Reference → WorkflowCertificate → Type 0
 IsOf (references.Scenario scenario) certificate = ⊥
+IsOf (references.Accepted accepted) certificate = ⊥
 IsOf (references.Workflow workflow) certificate = IsOfWorkflow workflow certificate
 
 -- the part in which it differs: from a scenario in its messages
 abbrev pub DiffersFrom : Reference → WorkflowCertificate → Part → Type 0
 DiffersFrom (references.Scenario scenario) certificate part = part ≡ Multicasts
+DiffersFrom (references.Accepted accepted) certificate part = part ≡ Multicasts
 DiffersFrom (references.Workflow workflow) certificate part = DiffersFromWorkflow workflow certificate part
 
 -- it is of what is wanted, if something is

@@ -1,8 +1,7 @@
--- What `check` answers for the text of a certificate of a workflow, and for that of a scenario where a workflow is wanted.
+-- What `check` answers for the text of a certificate of a workflow, and for that of a scenario where something else is wanted.
 use Rattle.std.specs.Prelude.{◌≡◌, ◌⊎◌, ℕ, Bool, true, false, List, ◌++◌, Option, Ok, Err}
 use Rattle.convoy_draft.specs.declared.duration.TimeUnit.{TimeUnit}
 use Rattle.convoy_scenario.specs.declared.part.Part.{Part}
-use Rattle.convoy_scenario.specs.declared.part.Part.TheVariants.{Multicasts}
 use Rattle.convoy_workflow_certificate.specs.declared.workflow_certificate.WorkflowCertificate.{WorkflowCertificate}
 use Rattle.convoy_commands.specs.declared.asking.Asking.TheVariants.{Check}
 use Rattle.convoy_commands.specs.declared.done.Done.{Done}
@@ -39,15 +38,15 @@ abbrev pub CheckWorkflowSays : Option Reference → Bool → Option TimeUnit →
 CheckWorkflowSays wanted tells unit text (Ok (end, out)) = IsWorkflowChecked wanted tells unit text end out ⊎ IsWorkflowDenied end out
 CheckWorkflowSays wanted tells unit text (Err fault) = ⊥
 
--- `check` accepts the text, which is that of a certificate of a scenario, and so of no workflow. What is written is that refusal, and the part is that of the messages.
-pub record IsOfNoWorkflow (part : Part) (text out : List ℕ) : Type 0 where
+-- `check` accepts the text, which is that of a certificate of a scenario, and so of nothing else. What is written is that refusal, and the part is that one.
+pub record IsOfOther (wanted part : Part) (text out : List ℕ) : Type 0 where
   pub line : List ℕ
   pub accepted : IsAccepted text line
-  pub is_named : part ≡ Multicasts
+  pub is_named : part ≡ wanted
   pub written : out ≡ differs_line part
 
--- what may be answered for the text of a certificate of a scenario, where a workflow is wanted: what is not accepted is answered as `check` does
-abbrev pub CheckAgainstWorkflowSays : Rule
-CheckAgainstWorkflowSays text (Ok (Fine, out)) = ⊥
-CheckAgainstWorkflowSays text (Ok (Differs part, out)) = IsOfNoWorkflow part text out
-CheckAgainstWorkflowSays text other = AskSays Check text other
+-- what may be answered for the text of a certificate of a scenario, where something else is wanted, from which it differs in this part: what is not accepted is answered as `check` does
+abbrev pub CheckOfOtherSays : Part → Rule
+CheckOfOtherSays wanted text (Ok (Fine, out)) = ⊥
+CheckOfOtherSays wanted text (Ok (Differs part, out)) = IsOfOther wanted part text out
+CheckOfOtherSays wanted text other = AskSays Check text other

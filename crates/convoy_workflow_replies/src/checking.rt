@@ -4,7 +4,7 @@ ghost use Rattle.convoy_commands.specs.Replies.{SaysUnlessMemory, reply_of};
 ghost use Rattle.convoy_commands.specs.Withins.{SaysWithin};
 ghost use Rattle.convoy_commands.specs.declared.done.Done.TheVariants.{NotChecked};
 ghost use Rattle.convoy_workflow_checker.specs.WorkflowValidity.{IsValidWorkflow};
-ghost use Rattle.convoy_workflow_replies.specs.WorkflowChecks.{CheckAgainstWorkflowSays, CheckWorkflowSays, IsReplyToValid, yes_text};
+ghost use Rattle.convoy_workflow_replies.specs.WorkflowChecks.{CheckOfOtherSays, CheckWorkflowSays, IsReplyToValid, yes_text};
 
 use super::asking::{about, acceptance, deny};
 use super::comparing::unwanted_part;
@@ -79,24 +79,26 @@ fn yes_text(
     Ok(text)
 }
 
-/// Whether a text is that of a valid certificate of a scenario, where one of a workflow is wanted: a valid one is refused
-/// as `Done::Differs(Part::Multicasts)`, since in a scenario no message follows another. Where there is a limit, at most so
+/// Whether a text is that of a valid certificate of a scenario, where one of something else is wanted: a valid one is refused
+/// as `Done::Differs` of this part, as of `Part::Multicasts` where a workflow is wanted, since in a scenario no message
+/// follows another, and of `Part::Groups` where groups are replicated by white box. Where there is a limit, at most so
 /// many steps are taken to check the certificate (docs/FORMATS.md, "Steps").
 ///
 /// Fails with `Fault::Memory`, and else never: a text that is that of no certificate, or of one that is not valid, is
 /// refused as [`ask`] does, and so is one that is not checked, since that takes more steps.
-pub fn check_against_workflow(
+pub fn check_of_other(
     alloc: Global,
+    part: Part,
     limit: Option<u64>,
     text: &[u8],
 ) -> Result<Answer, Fault>
-    ensures { SaysUnlessMemory (SaysWithin limit NotChecked CheckAgainstWorkflowSays) text.now (reply_of result) }
+    ensures { SaysUnlessMemory (SaysWithin limit NotChecked (CheckOfOtherSays part)) text.now (reply_of result) }
 {
     let answer = ask(alloc, Asking::Check, limit, text)?;
     match answer.done {
         Done::Fine => Ok(Answer {
-            done: Done::Differs(Part::Multicasts),
-            text: differs_line(alloc, Part::Multicasts)?,
+            done: Done::Differs(part),
+            text: differs_line(alloc, part)?,
             known: answer.known,
         }),
         _ => Ok(answer),

@@ -30,7 +30,7 @@ fn part_other_than(reference: &Reference, certificate: &WorkflowCertificate) -> 
     ensures { MatchOption result (IsOf reference.now certificate.now) (DiffersFrom reference.now certificate.now) }
 {
     match reference {
-        Reference::Scenario(_) => Some(Part::Multicasts),
+        Reference::Scenario(_) | Reference::Accepted(_) => Some(Part::Multicasts),
         Reference::Workflow(workflow) => part_other_than_in(workflow, certificate),
     }
 }

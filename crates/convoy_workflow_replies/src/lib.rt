@@ -3,7 +3,7 @@
 #![tactic(auto)]
 
 pub use asking::ask_workflow;
-pub use checking::{check_against_workflow, check_workflow_answer};
+pub use checking::{check_of_other, check_workflow_answer};
 pub use forms::{is_workflow_certificate, run_text, told_text};
 pub use reference::Reference;
 
